@@ -1,33 +1,32 @@
 -- The till: what is asked of it, what it answers, and what is in it then. Assumes nothing: these are definitions.
 --
 -- A till has limits l, values vs, and so many of each coin, ns. `answer` says what a call is answered, `after` how many of each coin there are then.
-use mathlib.Core.Path.{_≡_}
-use mathlib.Core.Bool.{Bool, true, false, not, _&&_, _||_}
-use mathlib.Core.List.{List, [], _∷_, _++_}
-use Prim.Native.Nat.{ℕ, zero, suc, _+_, _*_, _-_, _/_, _%_, _≤_, _<_}
+use mathlib.Core.Bool.{Bool, true, _&&_, _||_}
+use mathlib.Core.List.{List, [], _∷_}
+use Prim.Native.Nat.{ℕ, zero, suc, _+_, _-_}
 use lib.Dec.{ltb, leb, eqb}
 use lib.ListN.{length, getD, set}
-use Rattle.coins.specs.Coins.{pick, sum, worth, within, fewest, paid, plenty, largest-first}
+use Rattle.coins.specs.Coins.{pick, sum, worth, fewest, paid, plenty, largest-first}
 
 pub data Call : Type 0 where
-  fills : ℕ → ℕ → Call            -- a coin, by its place from 0, and how many more of it
-  pays : ℕ → Call                 -- an amount, to be paid with the fewest coins
-  sells : ℕ → List ℕ → Call       -- a price, and the coins put in, so many of each: what they are worth more than the price is paid back, also from these
-  could : ℕ → Call                -- an amount: with how many coins it could be paid
-  holds : Call                    -- what is in the till
-  spoils : ℕ → Call               -- a bound: the smallest amount up to it that is spoilt, with plenty of coins
-  garbled : ℕ → Call              -- no call: it can't be read from this place on
+  fills : ℕ → ℕ → Call  -- a coin, by its place from 0, and how many more of it
+  pays : ℕ → Call  -- an amount, to be paid with the fewest coins
+  sells : ℕ → List ℕ → Call  -- a price, and the coins put in, so many of each: what they are worth more than the price is paid back, also from these
+  could : ℕ → Call  -- an amount: with how many coins it could be paid
+  holds : Call  -- what is in the till
+  spoils : ℕ → Call  -- a bound: the smallest amount up to it that is spoilt, with plenty of coins
+  garbled : ℕ → Call  -- no call: it can't be read from this place on
 
 pub data Answer : Type 0 where
-  refused : ℕ → ℕ → Answer        -- a number that says why, and the place
+  refused : ℕ → ℕ → Answer  -- a number that says why, and the place
   number : ℕ → Answer
   two : ℕ → ℕ → Answer
-  coins : List ℕ → Answer         -- so many of each coin
+  coins : List ℕ → Answer  -- so many of each coin
 
 pub record Limits : Type 0 where
-  pub calls-can : ℕ → Bool        -- which calls the till does, by their numbers
-  pub each : ℕ                    -- how many of each coin it holds at most
-  pub most : ℕ                    -- the largest amount, price or bound
+  pub calls-can : ℕ → Bool  -- which calls the till does, by their numbers
+  pub each : ℕ  -- how many of each coin it holds at most
+  pub most : ℕ  -- the largest amount, price or bound
 
 -- each call's number; `garbled` has none of its own
 unfoldable pub call-number : Call → ℕ
@@ -63,7 +62,7 @@ turned-by l vs ns (fills i k) = pick (ltb i (length vs)) (pick (leb (getD ns i 0
 turned-by l vs ns (pays x) = pick (leb x (l .most)) (pick (eqb (fewest vs ns x) 0) 6 0) 2
 turned-by l vs ns (sells p cs) =
     pick (eqb (length cs) (length vs) && (all-to (l .each) cs && (leb p (l .most) && leb (worth vs cs) (l .most))))
-        (pick (leb p (worth vs cs)) (pick (all-to (l .each) (added ns cs)) (pick (eqb (fewest vs (added ns cs) (worth vs cs - p)) 0) 6 0) 7) 5) 2
+    (pick (leb p (worth vs cs)) (pick (all-to (l .each) (added ns cs)) (pick (eqb (fewest vs (added ns cs) (worth vs cs - p)) 0) 6 0) 7) 5) 2
 turned-by l vs ns (could x) = pick (leb x (l .most)) 0 2
 turned-by l vs ns holds = 0
 turned-by l vs ns (spoils n) = pick (leb n (l .most)) 0 2

@@ -1,13 +1,13 @@
 -- What is promised: each statement is a type, and its proof is owed by the contract of some function. Assumes nothing.
 use mathlib.Core.Path.{_≡_}
-use mathlib.Core.Logic.{_⊎_, _≢_}
-use mathlib.Core.Bool.{Bool, true, false, not, _&&_, _||_}
-use mathlib.Core.List.{List, [], _∷_, _++_}
+use mathlib.Core.Logic.{_≢_}
+use mathlib.Core.Bool.{Bool, true, false, _&&_, _||_}
+use mathlib.Core.List.{List, [], _∷_}
 use Prim.Native.Nat.{ℕ, zero, suc, _+_, _*_, _-_, _/_, _%_, _≤_, _<_}
 use lib.Dec.{ltb, leb, eqb}
-use lib.ListN.{length, getD, set}
+use lib.ListN.{length, getD}
 use Rattle.coins.specs.Coins.{pick, sum, worth, within, fewest, paid, plenty, largest-first, falling}
-use Rattle.coins.specs.Calls.{Call, pays, sells, Answer, Limits, added, less, turned, after, answer, answers, no-coins}
+use Rattle.coins.specs.Calls.{Call, pays, sells, Answer, Limits, turned, after, answers, no-coins}
 
 -- limits and values with which a till may be opened: 1 to 16 values, from the largest on, the last 1
 abbrev pub Taken : Limits → List ℕ → Type 0

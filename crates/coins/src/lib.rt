@@ -10,6 +10,9 @@ mod making;
 // No set has more kinds of coins.
 pub const MOST_KINDS: usize = 16;
 
+// No coin is worth more.
+pub const LARGEST_VALUE: u32 = 65_535;
+
 // The first `kinds` of the values are the set's, from the largest on.
 #[derive(Clone, Copy)]
 pub struct CoinSet {

@@ -5,6 +5,7 @@ ghost use lib.ListN.{length};
 ghost use Rattle.std.specs.Options.{Cases as BySome};
 ghost use Rattle.coins.specs.Values.{values-of, Is-set};
 use crate::CoinSet;
+use crate::LARGEST_VALUE;
 use crate::MOST_KINDS;
 
 impl CoinSet {
@@ -20,12 +21,13 @@ impl CoinSet {
         let mut held = [0u16; MOST_KINDS];
         for i in 0..last {
             let v = values[i];
-            if v <= values[i + 1] || v > 65_535 {
+            if v <= values[i + 1] || v > LARGEST_VALUE {
                 return None;
             }
             held[i] = v as u16;
         }
-        if values[last] != 1 {
+        let smallest = values[last];
+        if smallest != 1 {
             return None;
         }
         held[last] = 1;
@@ -48,5 +50,82 @@ impl CoinSet {
         ensures { λ r. ⌜ now r ≡ values-of (now (self .entry)) ⌝ }
     {
         &self.values[0..self.kinds]
+    }
+}
+
+#[cfg(test)]
+mod tests {
+    use super::*;
+    use std::test::*;
+
+    const SIXTEEN: [u32; 16] = [
+        65_535,
+        50_000,
+        20_000,
+        10_000,
+        5_000,
+        2_000,
+        1_000,
+        500,
+        200,
+        100,
+        50,
+        20,
+        10,
+        5,
+        2,
+        1,
+    ];
+
+    #[test]
+    fn takes_sets_of_coins() -> Result<(), Fail> {
+        let sets: [&[u32]; 4] = [&[1], &[25, 10, 1], &[65_535, 1], &SIXTEEN];
+        for values in sets {
+            let Some(set) = CoinSet::from_values(values) else {
+                return Err(Fail::new("not taken"));
+            };
+            check_eq(set.kinds(), values.len())?;
+            for (held, value) in set.values().iter().zip(values) {
+                check_eq(u32::from(*held), *value)?;
+            }
+        }
+        Ok(())
+    }
+
+    #[test]
+    fn refuses_what_is_none() -> Result<(), Fail> {
+        let lists: [&[u32]; 9] = [
+            &[],
+            &[0],
+            &[2],
+            &[25, 10],
+            &[25, 10, 1, 1],
+            &[10, 25, 1],
+            &[65_536, 1],
+            &[65_561, 10, 1],
+            &[
+                4_000,
+                3_000,
+                2_000,
+                1_500,
+                1_200,
+                1_100,
+                1_000,
+                500,
+                200,
+                100,
+                50,
+                20,
+                10,
+                5,
+                3,
+                2,
+                1,
+            ],
+        ];
+        for values in lists {
+            check(CoinSet::from_values(values).is_none())?;
+        }
+        Ok(())
     }
 }

@@ -8,7 +8,7 @@ use native.Mathlib.Omega.{arith}
 use lib.ListN.{length}
 use Rattle.coins.specs.Coins.{sum, worth, within, fewest, paid, plenty, largest-first}
 use Rattle.coins.specs.Promise.{spoilt}
-use Rattle.laws.proofs.Ways.{fewest-at-most, paid-is-way}
+use Rattle.laws.proofs.Ways.{length-paid, fewest-at-most, paid-is-way}
 use Rattle.laws.proofs.Falling.{Falls, Positive, positive}
 use Rattle.laws.proofs.Coin.{Way}
 use Rattle.laws.proofs.Largest.{takes-pays, largest-zero}
@@ -17,12 +17,6 @@ length-plenty : (vs : List ℕ) (x : ℕ) → length (plenty vs x) ≡ length vs
 unfolding plenty
 length-plenty [] x = refl
 length-plenty (v ∷ vs) x = ap suc (length-plenty vs x)
-
-length-paid : (vs ns : List ℕ) (x : ℕ) → length ns ≡ length vs → length (paid vs ns x) ≡ length vs
-unfolding paid
-length-paid [] ns x e = refl
-length-paid (v ∷ vs) [] x e = e
-length-paid (v ∷ vs) (n ∷ ns) x e = ap suc (length-paid vs ns _ (omega arith))
 
 within-plenty : (vs xs : List ℕ) (x : ℕ) → Positive vs → length xs ≡ length vs → worth vs xs ≤ x → within xs (plenty vs x) ≡ true
 unfolding within plenty worth

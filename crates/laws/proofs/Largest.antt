@@ -12,7 +12,7 @@ use lib.ListN.{length, getD}
 use Rattle.coins.specs.Coins.{sum, worth, largest-first}
 use Rattle.coins.specs.Calls.{no-coins}
 use Rattle.coins.specs.Promise.{first-part}
-use Rattle.laws.specs.Search.{own-way}
+use Rattle.laws.specs.Pairs.{own-way}
 use Rattle.laws.proofs.First.{first}
 use Rattle.laws.proofs.Falling.{Falls, one, more, Positive, positive}
 use Rattle.laws.proofs.Coin.{add, Way, same-way, one-more, Without, without}

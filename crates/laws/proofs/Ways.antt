@@ -14,6 +14,11 @@ unfolding worth
 worth-none [] = refl
 worth-none (v ∷ vs) = refl
 
+pub length-paid : (vs ns : List ℕ) (x : ℕ) → length ns ≡ length vs → length (paid vs ns x) ≡ length vs
+unfolding paid
+length-paid [] ns x e = refl
+length-paid (v ∷ vs) ns x e = grind (arith, length-paid vs)
+
 -- no way has fewer coins
 pub fewest-at-most : (vs ns xs : List ℕ) (x : ℕ) → within xs ns ≡ true → worth vs xs ≡ x → (0 < fewest vs ns x) × (fewest vs ns x ≤ suc (sum xs))
 unfolding within fewest worth sum

@@ -1,4 +1,8 @@
--- The smallest spoilt amount comes of two coins. Assumes nothing.
+-- The smallest spoilt amount w comes of two coins. Assumes nothing.
+--
+-- A coin is good if w can be paid with it and what the largest first takes of the rest, with no more coins than the fewest for w; the coins of a fewest way are,
+-- since no amount below w is spoilt. The coin that the largest first begins with at w is not good, or w were not spoilt. So there is a coin i just before the first good one, p.
+-- With j the last coin that the largest first takes of w less p, the own way of i and j is p and these: its amount is w, and it has the fewest coins.
 use mathlib.Core.Path.{_≡_, ap, subst, _∙_}
 use mathlib.Core.Logic.{inl, inr, Dec·and}
 use mathlib.Core.List.{List}
@@ -8,7 +12,7 @@ use native.Mathlib.Omega.{arith}
 use lib.ListN.{length, getD}
 use Rattle.std.proofs.shelf.Tests.{cases-lt}
 use Rattle.coins.specs.Coins.{largest-first}
-use Rattle.laws.specs.Search.{own-way, of-two, Passes}
+use Rattle.laws.specs.Pairs.{own-way, of-two, Passes}
 use Rattle.laws.proofs.First.{First, first}
 use Rattle.laws.proofs.Falling.{Falls, positive, descends, no-larger}
 use Rattle.laws.proofs.Coin.{Way, add, same-way, one-more, one-less}
@@ -67,8 +71,12 @@ module _ {vs : List ℕ} (f : Falls vs) (w : ℕ) (s : First (λ x. few vs x < l
       (first-coin vs (suc i) j z l le (positive f (suc i) l) (omega arith) (λ k t. omega (arith, no-larger f k i (omega arith) (omega arith)))
       ∙ ap (add (suc i)) (same (z - getD vs (suc i) 0) (omega arith) (omega arith)))
 
-  -- so with p the first good coin, i the one before it, and j the last that largest first takes of w less p, the amount is w
-  found : (p : ℕ) → p < length vs → First (Good vs w) p → (i : ℕ) × (j : ℕ) × Passes vs i j × (of-two vs i j ≡ w)
+  -- two coins that pass, whose amount is w, with no more coins than the fewest
+  abbrev Pair : Type 0
+  Pair = (i : ℕ) × (j : ℕ) × Passes vs i j × (of-two vs i j ≡ w) × (own-way vs j (getD vs i 0 - 1) ≤ few vs w)
+
+  -- i is the coin before the first good one, and j the last that the largest first takes of w less that one
+  found : (p : ℕ) → p < length vs → First (Good vs w) p → Pair
   found zero l here = absurd (omega (arith, larger zero l (here .0) .1))
   found (suc i) l here =
       let (g, h, at) = larger (suc i) l (here .0) in
@@ -80,7 +88,7 @@ module _ {vs : List ℕ} (f : Falls vs) (w : ℕ) (s : First (λ x. few vs x < l
       let later : suc i ≤ j = grind (arith, here .1 j, good-j) in
       let (amount, count) = pair-is i j u l later (omega arith) fits (rest-small (suc i) i j here (omega arith) l lj good-j) same in
       let amount-is : of-two vs i j ≡ w = omega arith in
-      (i, j, (later, lj, omega (arith, s .0, here .0, ap (largest-first vs) amount-is)), amount-is)
+      (i, j, (later, lj, omega (arith, s .0, here .0, ap (largest-first vs) amount-is)), amount-is, omega (arith, here .0))
 
-  pub smallest : (i : ℕ) × (j : ℕ) × Passes vs i j × (of-two vs i j ≡ w)
+  pub smallest : Pair
   smallest = let (p, l, here) = first-good in found p l here

@@ -1,17 +1,9 @@
-// A till: cents of so many coins of fifty, a small instance, proved. And theorems of the written till, each on the contract of a small function.
-ghost use mathlib.Core.Path.{_≡_};
-ghost use Prim.Native.Nat.{_+_, _*_};
-ghost use Rattle.coins.specs.Promise.{Never-spoilt, Where-to-look, Fewest, Not-otherwise, Kept, More-coins};
+// The laws of coins and of the till, each on the contract of a function that does nothing else.
+// The lemmas behind them, in proofs/, are for the crates above too.
+ghost use Rattle.coins.specs.Promise.{Fewest, Not-otherwise, Kept, More-coins, Where-to-look, Never-spoilt};
 ghost use Rattle.coins.specs.Order.{Most-large};
+ghost use Rattle.laws.specs.Pairs.{Smallest-is-one, Search-right, Search-answers};
 ghost use Rattle.laws.specs.Worked.{Worked};
-
-ghost use Rattle.laws.specs.Search.{Search-right, Smallest-is-one, Search-answers};
-
-pub fn fifties(n: u16) -> u64
-    ensures { λ r. ⌜ r ≡ 50 * n ⌝ }
-{
-    50 * (n as u64)
-}
 
 // What is paid is the amount, from coins that are there, and no way has fewer coins.
 pub fn fewest_stands() -> u8
@@ -20,14 +12,21 @@ pub fn fewest_stands() -> u8
     0
 }
 
-// What is said not to be payable is not.
+// What has no fewest has no way.
 pub fn not_otherwise_stands() -> u8
     ensures { λ _. ⌜ Not-otherwise ⌝ }
 {
     0
 }
 
-// Money is kept.
+// Of all ways with the fewest coins, the one with the most large coins is paid.
+pub fn most_large_stands() -> u8
+    ensures { λ _. ⌜ Most-large ⌝ }
+{
+    0
+}
+
+// A sale leaves the price more in the till, a payment the amount less.
 pub fn kept_stands() -> u8
     ensures { λ _. ⌜ Kept ⌝ }
 {
@@ -41,9 +40,37 @@ pub fn more_coins_stands() -> u8
     0
 }
 
-// Of the ways with the fewest coins the one with the most large coins is paid.
-pub fn most_large_stands() -> u8
-    ensures { λ _. ⌜ Most-large ⌝ }
+// Coins of which each is a multiple of the next are never spoilt.
+pub fn never_spoilt_stands() -> u8
+    ensures { λ _. ⌜ Never-spoilt ⌝ }
+{
+    0
+}
+
+// If any amount is spoilt, one that comes of two coins is, and it is not larger.
+pub fn where_to_look_stands() -> u8
+    ensures { λ _. ⌜ Where-to-look ⌝ }
+{
+    0
+}
+
+// The smallest spoilt amount comes of two coins itself, with the fewest coins for it.
+pub fn smallest_is_one_stands() -> u8
+    ensures { λ _. ⌜ Smallest-is-one ⌝ }
+{
+    0
+}
+
+// The smallest amount of two coins that passes the test is the smallest spoilt amount, and if none passes, no amount is spoilt.
+pub fn search_right_stands() -> u8
+    ensures { λ _. ⌜ Search-right ⌝ }
+{
+    0
+}
+
+// So the search by two coins finds what the till has to answer.
+pub fn search_answers_stands() -> u8
+    ensures { λ _. ⌜ Search-answers ⌝ }
 {
     0
 }
@@ -51,41 +78,6 @@ pub fn most_large_stands() -> u8
 // Worked payments.
 pub fn worked_stands() -> u8
     ensures { λ _. ⌜ Worked ⌝ }
-{
-    0
-}
-
-// If each value is a multiple of the next, the largest coin first is the fewest.
-pub fn never_stands() -> u8
-    ensures { λ _. ⌜ Never-spoilt ⌝ }
-{
-    0
-}
-
-// If some amount is spoilt, one that comes of two coins is, and it is not larger.
-pub fn where_stands() -> u8
-    ensures { λ _. ⌜ Where-to-look ⌝ }
-{
-    0
-}
-
-// The smallest spoilt amount comes of two coins.
-pub fn smallest_stands() -> u8
-    ensures { λ _. ⌜ Smallest-is-one ⌝ }
-{
-    0
-}
-
-// The smallest amount of the pairs that pass the test is the smallest spoilt amount.
-pub fn search_stands() -> u8
-    ensures { λ _. ⌜ Search-right ⌝ }
-{
-    0
-}
-
-// So it is what the written till answers.
-pub fn answers_stand() -> u8
-    ensures { λ _. ⌜ Search-answers ⌝ }
 {
     0
 }

@@ -1,5 +1,5 @@
--- `till::kept_stands`: money is kept.
-use Rattle.laws.proofs.Stand.{kept-stands}
+-- `kept_stands` cites its law.
+use Rattle.laws.proofs.Promises.{kept-stands}
 use Rattle.laws.proofs.kept_stands.Needs as need
 
 pub returns : need.returns

@@ -1,5 +1,5 @@
--- `till::more_coins_stands`: more coins are never worse.
-use Rattle.laws.proofs.Stand.{more-coins-stands}
+-- `more_coins_stands` cites its law.
+use Rattle.laws.proofs.Promises.{more-coins-stands}
 use Rattle.laws.proofs.more_coins_stands.Needs as need
 
 pub returns : need.returns

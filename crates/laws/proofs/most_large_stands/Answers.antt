@@ -1,5 +1,5 @@
--- `till::most_large_stands`: of the ways with the fewest coins the one with the most large coins is paid.
-use Rattle.laws.proofs.Stand.{most-large-stands}
+-- `most_large_stands` cites its law.
+use Rattle.laws.proofs.Promises.{most-large-stands}
 use Rattle.laws.proofs.most_large_stands.Needs as need
 
 pub returns : need.returns

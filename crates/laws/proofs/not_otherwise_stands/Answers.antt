@@ -1,5 +1,5 @@
--- `till::not_otherwise_stands`: what is said not to be payable is not.
-use Rattle.laws.proofs.Stand.{not-otherwise-stands}
+-- `not_otherwise_stands` cites its law.
+use Rattle.laws.proofs.Promises.{not-otherwise-stands}
 use Rattle.laws.proofs.not_otherwise_stands.Needs as need
 
 pub returns : need.returns

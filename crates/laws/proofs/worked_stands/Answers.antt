@@ -1,5 +1,5 @@
--- `till::worked_stands`: worked payments.
-use Rattle.laws.proofs.Worked.{worked-stands}
+-- `worked_stands` cites its law.
+use Rattle.laws.proofs.Best.{worked-stands}
 use Rattle.laws.proofs.worked_stands.Needs as need
 
 pub returns : need.returns
