@@ -9,10 +9,11 @@ use lib.ListN.{length, getD, drop, take, set}
 use Rattle.std.proofs.shelf.Lists.{drop-more, drop-all, take-more, take-more-set, take-all}
 use Rattle.coins.specs.Coins.{falling}
 
-pub no-values : (vs : List ℕ) → falling vs ≡ true → 0 < length vs
+-- a set of coins has some value
+pub some-value : (vs : List ℕ) → falling vs ≡ true → 0 < length vs
 unfolding falling
-no-values [] t = grind arith
-no-values (v ∷ vs) t = omega arith
+some-value [] t = grind arith
+some-value (v ∷ vs) t = omega arith
 
 -- a value before the last, and the values from the next on
 pub falls-step : (vs : List ℕ) (i : ℕ) → i + 1 < length vs → falling (drop i vs) ≡ ((ltb (getD vs (i + 1) 0) (getD vs i 0) && leb (getD vs i 0) 65535) && falling (drop (i + 1) vs))

@@ -58,9 +58,11 @@ mod tests {
     use super::*;
     use std::test::*;
 
-    const SIXTEEN: [u32; 16] = [
+    // One value more than a set may have; without the first they are a set.
+    const SEVENTEEN: [u32; 17] = [
         65_535,
         50_000,
+        40_000,
         20_000,
         10_000,
         5_000,
@@ -79,7 +81,7 @@ mod tests {
 
     #[test]
     fn takes_sets_of_coins() -> Result<(), Fail> {
-        let sets: [&[u32]; 4] = [&[1], &[25, 10, 1], &[65_535, 1], &SIXTEEN];
+        let sets: [&[u32]; 4] = [&[1], &[25, 10, 1], &[65_535, 1], &SEVENTEEN[1..17]];
         for values in sets {
             let Some(set) = CoinSet::from_values(values) else {
                 return Err(Fail::new("not taken"));
@@ -103,25 +105,7 @@ mod tests {
             &[10, 25, 1],
             &[65_536, 1],
             &[65_561, 10, 1],
-            &[
-                4_000,
-                3_000,
-                2_000,
-                1_500,
-                1_200,
-                1_100,
-                1_000,
-                500,
-                200,
-                100,
-                50,
-                20,
-                10,
-                5,
-                3,
-                2,
-                1,
-            ],
+            &SEVENTEEN,
         ];
         for values in lists {
             check(CoinSet::from_values(values).is_none())?;

@@ -1,3 +1,4 @@
 pub mod Opening
+pub mod Requests
 pub mod Replies
 pub mod Answers

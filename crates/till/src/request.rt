@@ -1,4 +1,7 @@
 // A line of text, read as an opening or a call.
+ghost use Rattle.std.specs.Slices.{found};
+ghost use Rattle.std.specs.Vec.{made};
+ghost use Rattle.till.specs.Requests.{Spells-call, Spells-open};
 use std::alloc::AllocError;
 use std::alloc::Global;
 
@@ -52,7 +55,10 @@ pub fn read_request(heap: Global, line: &str) -> Result<Option<Request>, AllocEr
     }
 }
 
-fn read_open(heap: Global, numbers: &[u32]) -> Result<Option<Request>, AllocError> {
+// The opening with these numbers.
+fn read_open(heap: Global, numbers: &[u32]) -> Result<Option<Request>, AllocError>
+    ensures { λ r. ⌜ made r (λ o. found o (λ q. Spells-open (now (numbers .entry)) q)) ⌝ }
+{
     let [each, most, values @ ..] = numbers else {
         return Ok(None);
     };
@@ -64,7 +70,10 @@ fn read_open(heap: Global, numbers: &[u32]) -> Result<Option<Request>, AllocErro
     }))
 }
 
-fn read_call(heap: Global, name: &str, numbers: &[u32]) -> Result<Option<Call>, AllocError> {
+// The call of this name with these numbers.
+fn read_call(heap: Global, name: &str, numbers: &[u32]) -> Result<Option<Call>, AllocError>
+    ensures { λ r. ⌜ made r (λ o. found o (λ c. Spells-call (now (name .entry)) (now (numbers .entry)) c)) ⌝ }
+{
     let call = match (name, numbers) {
         ("fill", [coin, count]) => Call::Fill {
             coin: *coin,

@@ -6,12 +6,12 @@ use Prim.Native.Nat.{_-_}
 use native.Mathlib.Omega.{arith}
 use lib.ListN.{length, take, set}
 use Rattle.coins.specs.Coins.{falling}
-use Rattle.coins.proofs.Falls.{no-values, falls-step, falls-last, holds-more, all-held}
+use Rattle.coins.proofs.Falls.{some-value, falls-step, falls-last, holds-more, all-held}
 use Rattle.coins.proofs.CoinSet.from_values.Needs as need
 use Rattle.coins.proofs.CoinSet.from_values.Needs.{Else-smallest-ne1}
 
 pub returns-then-kinds-eq0 : need.returns-then-kinds-eq0
-returns-then-kinds-eq0 c = λ t. omega (arith, no-values (c .args .values .now) (t .1))
+returns-then-kinds-eq0 c = λ t. omega (arith, some-value (c .args .values .now) (t .1))
 
 pub returns-then-v-values : need.returns-then-v-values
 returns-then-v-values c = λ t. grind (arith, falls-step (c .args .values .now) (c .loop-i .i))
@@ -28,7 +28,7 @@ ended c =
     (c .loop-i .inv .1) (c .loop-i .inv .2) (c .if-smallest-ne1 .left)
 
 pub ghost-result : need.ghost-result
-ghost-result c = (c .if-kinds-gt-MOST-KINDS .left, (ap falling (ended c .0) ∙ ended c .1, tt))
+ghost-result c = (omega arith, (ap falling (ended c .0) ∙ ended c .1, tt))
 
 pub returns : need.returns
-returns c = let e = ended (need.at·returns c .Else-smallest-ne1) in ((c .if-kinds-gt-MOST-KINDS .left, e .1), e .0)
+returns c = let e = ended (need.at·returns c .Else-smallest-ne1) in ((omega arith, e .1), e .0)
