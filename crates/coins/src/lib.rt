@@ -1,4 +1,6 @@
 // A set of coins by value, and so many of each; what makes it one is in its type. The definitions of the whole till are in specs/.
+#![tactic(auto)]
+
 ghost use Rattle.std.specs.Prelude.{◌≡◌, ◌≤◌, true, take};
 ghost use Rattle.coins.specs.Coins.{falling};
 

@@ -1,4 +1,6 @@
 // Numbers as bytes: a field has four bytes, the lowest first. Reading and writing them, over any bytes.
+#![tactic(auto)]
+
 ghost use Rattle.std.specs.Prelude.{◌≡◌, ◌+◌, ◌*◌, ◌<◌, ◌≤◌, true, false, ◌≢◌, [], ◌∷◌, ◌++◌, length, take, drop, MatchOption};
 ghost use Rattle.fields.specs.Bytes.{field, fields, numbers, Written};
 ghost use Rattle.fields.specs.Counted.{are_counts};

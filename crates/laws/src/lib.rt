@@ -1,5 +1,7 @@
 // The laws of coins and of the till, each on the contract of a function that does nothing else.
 // The lemmas behind them, in proofs/, are for the crates above too.
+#![tactic(auto)]
+
 ghost use Rattle.coins.specs.Promise.{Fewest, NotOtherwise, Kept, MoreCoins, WhereToLook, NeverSpoilt};
 ghost use Rattle.coins.specs.Order.{MostLarge};
 ghost use Rattle.laws.specs.Pairs.{SmallestIsOne, SearchRight, SearchAnswers};

@@ -1,4 +1,6 @@
 // The program `till`: reads standard input line by line, and answers each line by one line.
+#![tactic(auto)]
+
 ghost use Rattle.till.specs.Answers.{Answered};
 
 use crate::opening::{Till, open_till};

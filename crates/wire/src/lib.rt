@@ -1,4 +1,6 @@
 // Calls and answers as bytes. What they stand for in the written till is in specs/Meant.antt.
+#![tactic(auto)]
+
 ghost use Rattle.wire.specs.Back.{CallsBack, CallsDiffer, AnswersBack, FrontsRefused, PlaceRight};
 
 pub mod answer;

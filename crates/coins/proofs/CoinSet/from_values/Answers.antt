@@ -22,8 +22,8 @@ ended c =
     all_held c.args.values.now c.loop-i.held c.loop-i.i (length c.args.values.now - 1) (omega arith) (omega arith) (omega arith)
     c.loop-i.invariant.1 c.loop-i.invariant.2 c.if-smallest-ne1.false
 
-pub invariant-of-result : goal.invariant-of-result
-invariant-of-result c = (omega arith, (ap falling (ended c).0 ∙ (ended c).1, tt))
+pub invariant_of-result : goal.invariant_of-result
+invariant_of-result c = record { few = omega arith; falls = ap falling (ended c).0 ∙ (ended c).1 }
 
 pub returns : goal.returns
 returns c = let e = ended (goal.at.returns c).Else-smallest-ne1 in ((omega arith, e.1), e.0)
