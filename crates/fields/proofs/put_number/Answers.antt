@@ -8,5 +8,5 @@ returns c =
     let xs = c.args.out.now in
     let at = c.args.at in
     let d : drop (at + 4 - at) (drop at xs) ≡ drop (at + 4) xs = drop-drop (at + 4 - at) at xs ∙ ap (λ m. drop m xs) (omega arith) in
-    let e = c.copy-from-slice.ensures.after ∙ c.to-le-bytes.ensures in
+    let e = c.copy_from_slice.ensures.after ∙ c.to_le_bytes.ensures in
     cc

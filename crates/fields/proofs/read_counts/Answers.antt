@@ -20,11 +20,11 @@ next c = c.loop-number.invariant.2 ∙ ap (λ l. take c.loop-number.kinds c.loop
 no_more : (c : In-Some) → (16 ≤ c.loop-number.kinds) ⊎ (65535 < c.in-Some.number) → are_counts (numbers c.args.bytes.now) ≡ false
 no_more c w = not_counts _ c.loop-number.counts _ c.loop-number.kinds c.in-Some.number (next c) (omega arith) w
 
-pub returns-in-default-try-from : goal.returns-in-default-try-from
-returns-in-default-try-from c = no_more (goal.at.returns-in-default-try-from c).In-Some (inr (omega (arith, c.in-default-try-from.ensures)))
+pub returns-in_default-try_from : goal.returns-in_default-try_from
+returns-in_default-try_from c = no_more (goal.at.returns-in_default-try_from c).In-Some (inr (omega (arith, c.in_default-try_from.ensures)))
 
-pub returns-then-kinds-ge-MOST-KINDS : goal.returns-then-kinds-ge-MOST-KINDS
-returns-then-kinds-ge-MOST-KINDS c = no_more (goal.at.returns-then-kinds-ge-MOST-KINDS c).In-Some (inl c.if-kinds-ge-MOST-KINDS.true)
+pub returns-then-kinds-ge-MOST_KINDS : goal.returns-then-kinds-ge-MOST_KINDS
+returns-then-kinds-ge-MOST_KINDS c = no_more (goal.at.returns-then-kinds-ge-MOST_KINDS c).In-Some (inl c.if-kinds-ge-MOST_KINDS.true)
 
 pub loop-number-preserved : goal.loop-number-preserved
 loop-number-preserved c =
@@ -37,5 +37,5 @@ loop-number-preserved c =
 
 pub returns : goal.returns
 returns c =
-    let e = c.loop-number.invariant.2 ∙ ap (λ l. take c.loop-number.kinds c.loop-number.counts ++ l) (numbers_none c.loop-number.rest.now c.in-default.ensures) ∙ append-nil _ in
+    let e = c.loop-number.invariant.2 ∙ ap (λ l. take c.loop-number.kinds c.loop-number.counts ++ l) (numbers_none c.loop-number.rest.now c.in_default.ensures) ∙ append-nil _ in
     all_counts c.new.result (numbers c.args.bytes.now) c.loop-number.counts c.loop-number.kinds e (omega arith) (omega arith) c.loop-number.invariant.3 c.new.ensures

@@ -16,5 +16,5 @@ returns-then-out-start c =
 pub returns : goal.returns
 returns c = (
   sym (length-append c.args.head.now c.args.tail.now),
-  rw (c.copy-from-slice.ensures.after, c.copy-from-slice-2.ensures.after) (two_parts c.args.head.now c.args.tail.now c.args.out.now _ _ (omega arith) (omega arith)),
+  rw (c.copy_from_slice.ensures.after, c.copy_from_slice-2.ensures.after) (two_parts c.args.head.now c.args.tail.now c.args.out.now _ _ (omega arith) (omega arith)),
 )

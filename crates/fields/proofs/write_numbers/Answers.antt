@@ -17,12 +17,12 @@ returns-then-out-start c =
 
 pub loop-i-init : goal.loop-i-init
 unfolding fields
-loop-i-init c = none_yet c.args.head.now c.copy-from-slice.new.self _ c.args.numbers.now c.copy-from-slice.ensures.after
+loop-i-init c = none_yet c.args.head.now c.copy_from_slice.new.self _ c.args.numbers.now c.copy_from_slice.ensures.after
 
 pub loop-i-preserved : goal.loop-i-preserved
-loop-i-preserved c = field_more c.args.head.now c.args.numbers.now _ c.loop-i.out c.put-number.new.out c.loop-i.i c.loop-i-test.true c.loop-i.invariant c.put-number.ensures
+loop-i-preserved c = field_more c.args.head.now c.args.numbers.now _ c.loop-i.out c.put_number.new.out c.loop-i.i c.loop-i-test.true c.loop-i.invariant c.put_number.ensures
 
 pub returns : goal.returns
 returns c =
-    all_fields c.args.head.now c.copy-from-slice.new.self c.args.numbers.now c.args.out.now c.loop-i.out _ c.loop-i.i
-    c.copy-from-slice.ensures.after (omega arith) (omega arith) c.loop-i.invariant
+    all_fields c.args.head.now c.copy_from_slice.new.self c.args.numbers.now c.args.out.now c.loop-i.out _ c.loop-i.i
+    c.copy_from_slice.ensures.after (omega arith) (omega arith) c.loop-i.invariant

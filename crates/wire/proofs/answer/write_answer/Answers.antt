@@ -22,7 +22,7 @@ pub returns-in-Coins : goal.returns-in-Coins
 unfolding answer_bytes
 returns-in-Coins c =
     let before = c.args.out.now in
-    let after = c.write-counts.new.out in
-    let r = c.write-counts.result in
-    let bytes = ap (λ ns. 3 ∷ (length ns ∷ fields (counts_of c.in-Coins.counts))) c.as-slice.ensures.value ∙ ap (λ a. answer_bytes (answer_meant a)) (sym c.in-Coins.is) in
-    subst (λ bs. Written bs before after r) bytes c.write-counts.ensures
+    let after = c.write_counts.new.out in
+    let r = c.write_counts.result in
+    let bytes = ap (λ ns. 3 ∷ (length ns ∷ fields (counts_of c.in-Coins.counts))) c.as_slice.ensures.value ∙ ap (λ a. answer_bytes (answer_meant a)) (sym c.in-Coins.is) in
+    subst (λ bs. Written bs before after r) bytes c.write_counts.ensures

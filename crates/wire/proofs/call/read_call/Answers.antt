@@ -9,14 +9,14 @@ use Rattle.wire.proofs.Cases.{kind_small, read_none, read_call, read_cut}
 use Rattle.wire.proofs.call.read_call.Goals as goal
 use Rattle.wire.proofs.call.read_call.Goals.{In-Some}
 
-pub returns-in-default : goal.returns-in-default
+pub returns-in_default : goal.returns-in_default
 unfolding read
-returns-in-default c = (c.unreadable.ensures.why, ap garbled c.unreadable.ensures.at ∙ sym (ap read (nil_from_length c.args.bytes.now (search rules))))
+returns-in_default c = (c.unreadable.ensures.why, ap garbled c.unreadable.ensures.at ∙ sym (ap read (nil_from_length c.args.bytes.now (search rules))))
 
-pub returns-in-default-from-number : goal.returns-in-default-from-number
-returns-in-default-from-number c =
-    let r = read_none c.args.bytes.now _ _ (first_rest c.args.bytes.now 0 (search rules)) c.in-default-from-number.ensures in
-    (c.unreadable-in-default-from-number.ensures.why, ap garbled c.unreadable-in-default-from-number.ensures.at ∙ sym r)
+pub returns-in_default-from_number : goal.returns-in_default-from_number
+returns-in_default-from_number c =
+    let r = read_none c.args.bytes.now _ _ (first_rest c.args.bytes.now 0 (search rules)) c.in_default-from_number.ensures in
+    (c.unreadable-in_default-from_number.ensures.why, ap garbled c.unreadable-in_default-from_number.ensures.at ∙ sym r)
 
 -- the bytes behind the first
 rest : (c : In-Some) → List ℕ
@@ -26,17 +26,17 @@ cut : (c : In-Some) → c.args.bytes.now ≡ kind_number c.in-Some.kind ∷ rest
 unfolding rest
 cut c = first_rest c.args.bytes.now 0 (search rules) ∙ ap (λ k. k ∷ rest c) (sym c.in-Some.ensures)
 
-pub returns-in-default-read-fields : goal.returns-in-default-read-fields
+pub returns-in_default-read_fields : goal.returns-in_default-read_fields
 unfolding rest
-returns-in-default-read-fields c =
-    let i = (goal.at.returns-in-default-read-fields c).In-Some in
-    let r = read_cut c.args.bytes.now (rest i) _ (cut i) (kind_small c.in-Some.kind) c.in-default-read-fields.ensures in
-    let place = c.unreadable-in-default-read-fields.ensures.at ∙ c.min.ensures ∙ ap (min (length c.args.bytes.now)) c.longest.ensures in
-    (c.unreadable-in-default-read-fields.ensures.why, ap garbled place ∙ sym r)
+returns-in_default-read_fields c =
+    let i = (goal.at.returns-in_default-read_fields c).In-Some in
+    let r = read_cut c.args.bytes.now (rest i) _ (cut i) (kind_small c.in-Some.kind) c.in_default-read_fields.ensures in
+    let place = c.unreadable-in_default-read_fields.ensures.at ∙ c.min.ensures ∙ ap (min (length c.args.bytes.now)) c.longest.ensures in
+    (c.unreadable-in_default-read_fields.ensures.why, ap garbled place ∙ sym r)
 
 pub returns : goal.returns
 unfolding rest
 returns c =
     let i = (goal.at.returns c).In-Some in
-    let r = read_call c.args.bytes.now (rest i) _ (cut i) (kind_small c.in-Some.kind) c.in-Some-read-fields.ensures.0 in
-    c.in-Some-read-fields.ensures.1 ∙ sym r
+    let r = read_call c.args.bytes.now (rest i) _ (cut i) (kind_small c.in-Some.kind) c.in-Some-read_fields.ensures.0 in
+    c.in-Some-read_fields.ensures.1 ∙ sym r

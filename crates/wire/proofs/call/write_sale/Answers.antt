@@ -6,5 +6,5 @@ use Rattle.wire.proofs.call.write_sale.Goals as goal
 
 pub returns : goal.returns
 returns c =
-    writes_sale c.args.price c.to-le-bytes.result c.args.put-in.now _ _ _ c.to-le-bytes.ensures (all_bytes c.args.put-in.now c.type-inv.put_in)
-    (sym c.whole-fields.ensures ∙ c.if-not-whole-fields.false) c.write-bytes.ensures
+    writes_sale c.args.price c.to_le_bytes.result c.args.put_in.now _ _ _ c.to_le_bytes.ensures (all_bytes c.args.put_in.now c.type_inv.put_in)
+    (sym c.whole_fields.ensures ∙ c.if-not-whole_fields.false) c.write_bytes.ensures
