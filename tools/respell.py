@@ -64,11 +64,15 @@ def respelled(code):
     return TOKEN.sub(one, code)
 
 
-def line_respelled(line, comment):
-    code, mark, rest = line.partition(comment)
-    if '"' in code:
-        return line
-    return respelled(code) + mark + QUOTED.sub(lambda m: "`" + NAMES.get(m.group(1), m.group(1)) + "`", rest)
+def text_respelled(text, comment):
+    """All but strings, which may have several lines, and comments but for names in backquotes."""
+    parts = re.split(r'("[^"]*"|' + comment + r"[^\n]*)", text)
+    for i, part in enumerate(parts):
+        if i % 2 == 0:
+            parts[i] = respelled(part)
+        elif not part.startswith('"'):
+            parts[i] = QUOTED.sub(lambda m: "`" + NAMES.get(m.group(1), m.group(1)) + "`", part)
+    return "".join(parts)
 
 
 def main():
@@ -77,7 +81,7 @@ def main():
         comment = "--" if path.endswith(".antt") else "//"
         with open(path, encoding="utf-8") as f:
             old = f.read()
-        new = "".join(line_respelled(line, comment) for line in old.splitlines(keepends=True))
+        new = text_respelled(old, comment)
         if new != old:
             with open(path, "w", encoding="utf-8") as f:
                 f.write(new)

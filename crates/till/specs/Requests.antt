@@ -7,12 +7,12 @@ use Rattle.till.specs.declared.request.Call.TheVariants.{Fill, Pay, Sell, Could,
 
 -- the word and the numbers are this call
 abbrev pub SpellsCall : List ℕ → List ℕ → Call → Type 0
-Spells-call word ns (Fill i k) = (word ≡ codes "fill") × (length ns ≡ 2) × (i ≡ slice_index ns 0) × (k ≡ slice_index ns 1)
-Spells-call word ns (Pay x) = (word ≡ codes "pay") × (length ns ≡ 1) × (x ≡ slice_index ns 0)
-Spells-call word ns (Sell p cs) = (word ≡ codes "sell") × (1 ≤ length ns) × (length ns ≤ 17) × (p ≡ slice_index ns 0) × (vec_items cs ≡ drop 1 ns)
-Spells-call word ns (Could x) = (word ≡ codes "could") × (length ns ≡ 1) × (x ≡ slice_index ns 0)
-Spells-call word ns Holds = (word ≡ codes "holds") × (length ns ≡ 0)
-Spells-call word ns (Spoils n) = (word ≡ codes "spoils") × (length ns ≡ 1) × (n ≡ slice_index ns 0)
+SpellsCall word ns (Fill i k) = (word ≡ codes "fill") × (length ns ≡ 2) × (i ≡ slice_index ns 0) × (k ≡ slice_index ns 1)
+SpellsCall word ns (Pay x) = (word ≡ codes "pay") × (length ns ≡ 1) × (x ≡ slice_index ns 0)
+SpellsCall word ns (Sell p cs) = (word ≡ codes "sell") × (1 ≤ length ns) × (length ns ≤ 17) × (p ≡ slice_index ns 0) × (vec_items cs ≡ drop 1 ns)
+SpellsCall word ns (Could x) = (word ≡ codes "could") × (length ns ≡ 1) × (x ≡ slice_index ns 0)
+SpellsCall word ns Holds = (word ≡ codes "holds") × (length ns ≡ 0)
+SpellsCall word ns (Spoils n) = (word ≡ codes "spoils") × (length ns ≡ 1) × (n ≡ slice_index ns 0)
 
 -- the numbers behind `open` are this opening
 abbrev pub SpellsOpen : List ℕ → Request → Type 0

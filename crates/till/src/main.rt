@@ -21,7 +21,7 @@ const HELP: &str = "till reads standard input, a line each, and answers each lin
   sell PRICE COUNT ..      coins put in, so many of each: how many of each are paid back
   could AMOUNT             one more than the fewest coins for it, or 0
   holds                    what all coins are worth, and how many there are
-  spoils BOUND             the smallest amount up to it Spoilt by the largest coin first, or 0
+  spoils BOUND             the smallest amount up to it spoilt by the largest coin first, or 0
 At most 8 kinds of coins and amounts of 4096. Empty lines and lines that begin with # are passed over.
 Refused by 1: line L (from 0) can't be read. 2: out of range, or not done yet. 3: no set of coins or
   no till (at 0), limits out of range (at 1), more than is served (at 2). 4: no such coin. 5: less put
