@@ -1,11 +1,11 @@
 -- Calls are read as they were written. Assumes nothing.
-use Rattle.std.proofs.Common.{◌≡◌, ℕ, zero, suc, ◌+◌, ◌*◌, ◌%◌, ◌<◌, ◌≤◌, true, false, List, [], ◌∷◌, ◌++◌, length, get_or, take, drop, sym, refl, ap, ◌∙◌, subst, arith}
+use Rattle.std.proofs.Common.{◌≡◌, ℕ, zero, suc, ◌*◌, ◌<◌, ◌≤◌, true, List, [], ◌∷◌, length, get_or, drop, sym, refl, ap, ◌∙◌, subst, arith}
 use Rattle.std.proofs.lemmas.List.{nil_from_length}
 use Rattle.coins.specs.Calls.{Call, fills, pays, sells, could, holds, spoils, garbled, call_number, all_to}
 use Rattle.fields.specs.Bytes.{fields, numbers}
 use Rattle.fields.proofs.Numbers.{all_to_first, numbers_back, fields_back, numbers_fit, length_whole}
 use Rattle.fields.proofs.Writing.{length-fields}
-use Rattle.wire.specs.Calls.{call_fields, call_bytes, longest, may_have, call_of, read}
+use Rattle.wire.specs.Calls.{call_fields, call_bytes, may_have, call_of, read}
 use Rattle.wire.specs.Back.{IsCall, CallsBack, CallsDiffer}
 use Rattle.wire.proofs.Cases.{read_call, ways, none, call, cut}
 

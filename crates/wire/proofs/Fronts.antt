@@ -1,9 +1,9 @@
 -- Fronts of calls, and the place of what can't be read. Assumes nothing.
-use Rattle.std.proofs.Common.{◌≡◌, ℕ, zero, suc, ◌+◌, ◌-◌, ◌*◌, ◌/◌, ◌%◌, ◌<◌, ◌≤◌, min, true, false, ◌⊎◌, List, [], ◌∷◌, ◌++◌, length, get_or, take, drop, replicate, sym, refl, ap, ◌∙◌, subst, inl, inr, append-nil, arith}
+use Rattle.std.proofs.Common.{◌≡◌, ℕ, zero, suc, ◌-◌, ◌*◌, ◌/◌, ◌%◌, ◌<◌, ◌≤◌, min, true, List, [], ◌∷◌, ◌++◌, length, get_or, take, replicate, sym, refl, ap, ◌∙◌, subst, inl, inr, arith}
 use Rattle.std.proofs.lemmas.List.{length-append, length-replicate, length-take-le}
 use Rattle.coins.specs.Calls.{Call, fills, pays, sells, could, holds, spoils, garbled, call_number, all_to}
 use Rattle.fields.specs.Bytes.{fields, numbers}
-use Rattle.fields.proofs.Numbers.{all_to_first, numbers_back}
+use Rattle.fields.proofs.Numbers.{all_to_first}
 use Rattle.fields.proofs.Writing.{length-fields, take-fields}
 use Rattle.fields.proofs.Counting.{all_to-append, all_to-take, all_to-replicate}
 use Rattle.wire.specs.Calls.{call_fields, call_bytes, longest, may_have, call_of, read}

@@ -1,5 +1,5 @@
 -- Bytes that may be written, and are or not. Assumes nothing.
-use Rattle.std.proofs.Common.{◌≡◌, ℕ, ◌%◌, Bool, true, false, List, [], ◌∷◌, ◌++◌, length, get_or, Some, None, Option, sym, refl, ap, ◌∙◌, subst, arith}
+use Rattle.std.proofs.Common.{◌≡◌, ℕ, ◌%◌, Bool, true, List, ◌∷◌, ◌++◌, length, get_or, Some, None, Option, sym, ap, subst, arith}
 use Rattle.coins.specs.Calls.{sells, call_number, all_to}
 use Rattle.fields.specs.Bytes.{field, fields, numbers, Written}
 use Rattle.fields.proofs.Numbers.{fields_back}

@@ -1,5 +1,5 @@
 -- `read_counts`: what is held, and the numbers that are left, are the numbers of all bytes.
-use Rattle.std.proofs.Common.{◌≡◌, ◌<◌, ◌≤◌, false, ◌⊎◌, List, ◌∷◌, ◌++◌, length, take, sym, refl, ap, ◌∙◌, inl, inr, arith, rules}
+use Rattle.std.proofs.Common.{◌≡◌, ◌<◌, ◌≤◌, false, ◌⊎◌, ◌∷◌, ◌++◌, take, sym, refl, ap, ◌∙◌, inl, inr, arith}
 use Rattle.std.proofs.lemmas.List.{append-nil, length-set}
 use Rattle.coins.specs.Calls.{all_to}
 use Rattle.fields.specs.Bytes.{numbers}

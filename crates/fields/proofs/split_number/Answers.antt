@@ -1,5 +1,5 @@
 -- `split_number`: a field in front, and what is behind it.
-use Rattle.std.proofs.Common.{◌≡◌, ◌≤◌, length, sym, ap, ◌∙◌, rules}
+use Rattle.std.proofs.Common.{◌≤◌, length, rules}
 use Rattle.std.proofs.lemmas.List.{take_rest}
 use Rattle.fields.proofs.Numbers.{numbers_more}
 use Rattle.fields.proofs.split_number.Goals as goal

@@ -1,5 +1,5 @@
 -- `write_bytes`: two parts, one behind the other.
-use Rattle.std.proofs.Common.{◌≡◌, length, sym, refl, ap, ◌∙◌, arith}
+use Rattle.std.proofs.Common.{sym, refl, arith}
 use Rattle.std.proofs.lemmas.List.{length-append}
 use Rattle.fields.proofs.Writing.{two_parts}
 use Rattle.fields.proofs.write_bytes.Goals as goal

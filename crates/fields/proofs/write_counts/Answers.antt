@@ -1,5 +1,5 @@
 -- `write_counts`: the counts, one after another, as numbers of 32 bits.
-use Rattle.std.proofs.Common.{◌≡◌, ℕ, ◌-◌, List, ◌++◌, length, take, sym, refl, ap, ◌∙◌, subst, arith}
+use Rattle.std.proofs.Common.{◌≡◌, ◌-◌, ◌++◌, length, take, refl, ap, ◌∙◌, subst, arith}
 use Rattle.std.proofs.lemmas.List.{length-set, take_all}
 use Rattle.coins.specs.Values.{counts_of}
 use Rattle.coins.proofs.Falls.{holds_more}

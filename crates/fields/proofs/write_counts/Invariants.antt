@@ -1,5 +1,4 @@
 use Rattle.std.proofs.Common.{◌≡◌, length, take}
-use Rattle.coins.specs.Values.{counts_of}
 use Rattle.fields.proofs.write_counts.Given as goal
 
 abbrev pub invariant-loop-i : goal.invariant-loop-i

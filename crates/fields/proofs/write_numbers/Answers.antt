@@ -1,5 +1,5 @@
 -- `write_numbers`: the bytes in front, and the fields so far.
-use Rattle.std.proofs.Common.{◌≡◌, length, sym, refl, ap, ◌∙◌, arith, rules}
+use Rattle.std.proofs.Common.{refl, arith}
 use Rattle.std.proofs.lemmas.List.{length-append}
 use Rattle.fields.specs.Bytes.{fields}
 use Rattle.fields.proofs.Writing.{length-fields, none_yet, field_more, all_fields}
