@@ -1,4 +1,4 @@
-// The examples of docs/FORMATS.md: calls and answers as bytes.
+// Examples of calls and answers as bytes.
 use fields::read_counts;
 use std::process::Abort;
 use std::test::Fail;

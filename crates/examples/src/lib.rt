@@ -1,4 +1,4 @@
-// The examples of docs/, run as tests.
+// Examples, run as tests.
 #![tactic(auto)]
 
 #[cfg(test)]
