@@ -4,8 +4,8 @@
 usage: python3 tools/respell.py     at the top of the repository, once, right after port.py
 
 A fact is spelled like a type, in camel case; any other name in snake case. A dash stays where it joins two names,
-as in `length-paid`, the length of what is paid. Three names would have fallen together with another: `Is-set` with
-mathlib's word for a set in the sense of homotopy, `first_of` with a tactic, and `good?` has a sign that is no letter.
+as in `length-paid`, the length of what is paid. Two names would have fallen together with another, `Is-set` with
+mathlib's word for a set in the sense of homotopy and `first_of` with a tactic; and `good?` has a sign that is no letter.
 Strings, comments but for names in backquotes, and names that Rattle makes itself (goals, steps behind a dot) are left alone.
 """
 
