@@ -1,6 +1,5 @@
 // Examples of calls and answers as bytes.
 use fields::read_counts;
-use std::process::Abort;
 use std::test::Fail;
 use wire::answer::{Answer, read_answer, write_answer};
 use wire::call::{Call, read_call, write_call};
@@ -20,16 +19,19 @@ fn call_numbers(bytes: &[u8]) -> (u32, u32, usize) {
 }
 
 // A call that was read is written as the same bytes, and nothing behind them changes.
-fn written_again(rt: &impl Abort, bytes: &[u8]) -> Result<(), Fail> {
+fn written_again(bytes: &[u8]) -> Result<(), Fail> {
     let Ok(call) = read_call(bytes) else {
         return Ok(());
     };
     let mut out = [0xaau8; 80];
     let length = write_call(call, &mut out).ok_or("not written")?;
-    assert_eq!(rt; length, bytes.len());
-    assert!(rt; out.starts_with(bytes));
+    if length != bytes.len() || !out.starts_with(bytes) {
+        return Err(Fail::new("other bytes written"));
+    }
     for byte in out.iter().skip(length) {
-        assert_eq!(rt; *byte, 0xaa);
+        if *byte != 0xaa {
+            return Err(Fail::new("bytes behind changed"));
+        }
     }
     Ok(())
 }
@@ -71,7 +73,7 @@ fn calls(rt: HostRuntime) -> Result<(), Fail> {
     ];
     for (bytes, numbers) in rows {
         assert_eq!(rt; call_numbers(bytes), numbers);
-        written_again(&rt, bytes)?;
+        written_again(bytes)?;
     }
     Ok(())
 }
@@ -94,18 +96,25 @@ fn answer_numbers(bytes: &[u8]) -> (u32, u32, u32) {
 }
 
 // An answer that was read is written as the same bytes; into less memory nothing is written.
-fn answered_again(rt: &impl Abort, bytes: &[u8]) -> Result<(), Fail> {
+fn answered_again(bytes: &[u8]) -> Result<(), Fail> {
     let Some(answer) = read_answer(bytes) else {
         return Ok(());
     };
     let mut out = [0xaau8; 80];
     let length = write_answer(answer, &mut out).ok_or("not written")?;
-    assert_eq!(rt; length, bytes.len());
-    assert!(rt; out.starts_with(bytes));
-    assert!(rt; length <= 80 && length > 0);
+    if length != bytes.len() || !out.starts_with(bytes) {
+        return Err(Fail::new("other bytes written"));
+    }
+    if length > 80 || length == 0 {
+        return Err(Fail::new("no length of an answer"));
+    }
     let mut short = [0xaau8; 80];
-    assert!(rt; write_answer(answer, &mut short[0..length - 1]).is_none());
-    assert!(rt; short == [0xaa; 80]);
+    if write_answer(answer, &mut short[0..length - 1]).is_some() {
+        return Err(Fail::new("written into less memory"));
+    }
+    if short != [0xaa; 80] {
+        return Err(Fail::new("less memory changed"));
+    }
     Ok(())
 }
 
@@ -139,7 +148,7 @@ fn answers(rt: HostRuntime) -> Result<(), Fail> {
     ];
     for (bytes, numbers) in rows {
         assert_eq!(rt; answer_numbers(bytes), numbers);
-        answered_again(&rt, bytes)?;
+        answered_again(bytes)?;
     }
     Ok(())
 }
