@@ -3,3 +3,4 @@ pub mod Calls
 pub mod Promise
 pub mod Order
 pub mod Values
+pub mod Places

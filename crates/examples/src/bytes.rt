@@ -1,39 +1,37 @@
 // Examples of calls and answers as bytes.
+use coins::{Counts, PerKind};
 use fields::read_counts;
 use std::test::Fail;
-use wire::answer::{Answer, read_answer, write_answer};
-use wire::call::{Call, read_call, write_call};
+use wire::answer::{Answer, NoAnswer, Reason, Refusal, write_answer};
+use wire::call::{Call, write_call};
 
-// The number of a call and its first two numbers, at a sale the price and how many bytes of coins put in;
-// of bytes that are none 255, the refusal's number and its place.
-fn call_numbers(bytes: &[u8]) -> (u32, u32, usize) {
-    match read_call(bytes) {
-        Ok(Call::Fill { coin, count }) => (0, coin, count as usize),
-        Ok(Call::Pay(amount)) => (1, amount, 0),
-        Ok(Call::Sell { price, put_in }) => (2, price, put_in.len()),
-        Ok(Call::Could(amount)) => (3, amount, 0),
-        Ok(Call::Holds) => (4, 0, 0),
-        Ok(Call::Spoils(bound)) => (5, bound, 0),
-        Err(refusal) => (255, refusal.reason as u32, refusal.place as usize),
-    }
-}
-
-// A call that was read is written as the same bytes, and nothing behind them changes.
-fn written_again(bytes: &[u8]) -> Result<(), Fail> {
-    let Ok(call) = read_call(bytes) else {
-        return Ok(());
-    };
+// What `write` writes is these bytes, and nothing behind them changes; into less memory nothing is written.
+fn writes<F: Fn(&mut [u8]) -> Option<usize>>(bytes: &[u8], write: F) -> Result<(), Fail>
+    requires { F.IsAlwaysCallable write }
+{
     let mut out = [0xaau8; 80];
-    let length = write_call(call, &mut out).ok_or("not written")?;
+    let length = write(&mut out).ok_or("not written")?;
     if length != bytes.len() || !out.starts_with(bytes) {
         return Err(Fail::new("other bytes written"));
     }
-    for byte in out.iter().skip(length) {
-        if *byte != 0xaa {
-            return Err(Fail::new("bytes behind changed"));
-        }
+    if out.iter().skip(length).any(|byte| *byte != 0xaa) {
+        return Err(Fail::new("bytes behind changed"));
+    }
+    if length > 80 || length == 0 {
+        return Err(Fail::new("no length of bytes"));
+    }
+    let mut short = [0xaau8; 80];
+    if write(&mut short[0..length - 1]).is_some() {
+        return Err(Fail::new("written into less memory"));
+    }
+    if short != [0xaa; 80] {
+        return Err(Fail::new("less memory changed"));
     }
     Ok(())
+}
+
+fn unreadable<'a>(place: u32) -> Result<Call<&'a [u8]>, Refusal> {
+    Err(Refusal::unreadable(place))
 }
 
 #[test]
@@ -41,81 +39,82 @@ fn calls(rt: HostRuntime) -> Result<(), Fail> {
     let sixteen = [2u8; 69];
     let one_byte_more = [2u8; 70];
     let seventeen = [2u8; 73];
-    let rows: [(&[u8], (u32, u32, usize)); 22] = [
-        (&[0, 1, 0, 0, 0, 2, 1, 0, 0], (0, 1, 258)),
-        (&[1, 0x1e, 0, 0, 0], (1, 30, 0)),
+    let rows: [(&[u8], Result<Call<&[u8]>, Refusal>); 22] = [
+        (
+            &[0, 1, 0, 0, 0, 2, 1, 0, 0],
+            Ok(Call::Fill {
+                coin: 1,
+                count: 258,
+            }),
+        ),
+        (&[1, 0x1e, 0, 0, 0], Ok(Call::Pay(30))),
         (
             &[2, 0x46, 0, 0, 0, 4, 0, 0, 0, 0, 0, 0, 0, 0, 0, 0, 0],
-            (2, 70, 12),
+            Ok(Call::Sell {
+                price: 70,
+                put_in: &[4, 0, 0, 0, 0, 0, 0, 0, 0, 0, 0, 0],
+            }),
         ),
-        (&[2, 0x46, 0, 0, 0], (2, 70, 0)),
-        (&sixteen, (2, 0x0202_0202, 64)),
-        (&[3, 0x1e, 0, 0, 0], (3, 30, 0)),
-        (&[4], (4, 0, 0)),
-        (&[5, 0xe8, 3, 0, 0], (5, 1000, 0)),
-        (&[5, 0xff, 0xff, 0xff, 0xff], (5, 4_294_967_295, 0)),
+        (
+            &[2, 0x46, 0, 0, 0],
+            Ok(Call::Sell {
+                price: 70,
+                put_in: &[],
+            }),
+        ),
+        (
+            &sixteen,
+            Ok(Call::Sell {
+                price: 0x0202_0202,
+                put_in: &sixteen[5..69],
+            }),
+        ),
+        (&[3, 0x1e, 0, 0, 0], Ok(Call::Could(30))),
+        (&[4], Ok(Call::Holds)),
+        (&[5, 0xe8, 3, 0, 0], Ok(Call::Spoils(1000))),
+        (
+            &[5, 0xff, 0xff, 0xff, 0xff],
+            Ok(Call::Spoils(4_294_967_295)),
+        ),
         // no byte, no call's number
-        (&[], (255, 1, 0)),
-        (&[6], (255, 1, 0)),
-        (&[0xff, 0x1e, 0, 0, 0], (255, 1, 0)),
+        (&[], unreadable(0)),
+        (&[6], unreadable(0)),
+        (&[0xff, 0x1e, 0, 0, 0], unreadable(0)),
         // cut short
-        (&[1], (255, 1, 1)),
-        (&[1, 0x1e, 0], (255, 1, 3)),
-        (&[0, 1, 0, 0, 0], (255, 1, 5)),
-        (&[2, 0x46, 0, 0], (255, 1, 4)),
-        (&[2, 0x46, 0, 0, 0, 4], (255, 1, 6)),
+        (&[1], unreadable(1)),
+        (&[1, 0x1e, 0], unreadable(3)),
+        (&[0, 1, 0, 0, 0], unreadable(5)),
+        (&[2, 0x46, 0, 0], unreadable(4)),
+        (&[2, 0x46, 0, 0, 0, 4], unreadable(6)),
         // too long
-        (&[1, 0x1e, 0, 0, 0, 0], (255, 1, 5)),
-        (&[0, 1, 0, 0, 0, 2, 1, 0, 0, 7, 7], (255, 1, 9)),
-        (&[4, 4], (255, 1, 1)),
-        (&one_byte_more, (255, 1, 69)),
-        (&seventeen, (255, 1, 69)),
+        (&[1, 0x1e, 0, 0, 0, 0], unreadable(5)),
+        (&[0, 1, 0, 0, 0, 2, 1, 0, 0, 7, 7], unreadable(9)),
+        (&[4, 4], unreadable(1)),
+        (&one_byte_more, unreadable(69)),
+        (&seventeen, unreadable(69)),
     ];
-    for (bytes, numbers) in rows {
-        assert_eq!(rt; call_numbers(bytes), numbers);
-        written_again(bytes)?;
-    }
-    Ok(())
-}
-
-// The form of an answer and its first two numbers, of coins how many kinds and the largest count; 255 where it is none.
-fn answer_numbers(bytes: &[u8]) -> (u32, u32, u32) {
-    let Some(answer) = read_answer(bytes) else {
-        return (255, 0, 0);
-    };
-    match answer {
-        Answer::Refused(refusal) => (0, refusal.reason as u32, refusal.place),
-        Answer::Number(number) => (1, number, 0),
-        Answer::Two(first, second) => (2, first, second),
-        Answer::Coins(counts) => {
-            let counts = counts.as_slice();
-            let largest = counts.iter().copied().max().unwrap_or(0);
-            (3, counts.len() as u32, u32::from(largest))
+    for (bytes, expected) in rows {
+        assert_eq!(rt; Call::try_from(bytes), expected);
+        if let Ok(call) = expected {
+            writes(bytes, |out| write_call(call, out))?;
         }
     }
+    Ok(())
 }
 
-// An answer that was read is written as the same bytes; into less memory nothing is written.
-fn answered_again(bytes: &[u8]) -> Result<(), Fail> {
-    let Some(answer) = read_answer(bytes) else {
-        return Ok(());
-    };
-    let mut out = [0xaau8; 80];
-    let length = write_answer(answer, &mut out).ok_or("not written")?;
-    if length != bytes.len() || !out.starts_with(bytes) {
-        return Err(Fail::new("other bytes written"));
+fn refused(reason: Reason, place: u32) -> Result<Answer, NoAnswer> {
+    Ok(Answer::Refused(Refusal { reason, place }))
+}
+
+// The answer of so many of each coin.
+fn answer_coins(numbers: &[u16]) -> Result<Answer, NoAnswer> {
+    let mut counts = PerKind::new();
+    for number in numbers {
+        if counts.push(*number).is_err() {
+            return Err(NoAnswer);
+        }
     }
-    if length > 80 || length == 0 {
-        return Err(Fail::new("no length of an answer"));
-    }
-    let mut short = [0xaau8; 80];
-    if write_answer(answer, &mut short[0..length - 1]).is_some() {
-        return Err(Fail::new("written into less memory"));
-    }
-    if short != [0xaa; 80] {
-        return Err(Fail::new("less memory changed"));
-    }
-    Ok(())
+    Ok(Answer::Coins(Counts(counts)))
 }
 
 #[test]
@@ -126,29 +125,37 @@ fn answers(rt: HostRuntime) -> Result<(), Fail> {
     let mut seventeen = [0u8; 70];
     seventeen[0] = 3;
     seventeen[1] = 17;
-    let rows: [(&[u8], (u32, u32, u32)); 17] = [
-        (&[0, 6, 0, 0, 0, 0, 0, 0, 0], (0, 6, 0)),
-        (&[0, 1, 0, 0, 0, 69, 0, 0, 0], (0, 1, 69)),
-        (&[1, 7, 0, 0, 0], (1, 7, 0)),
-        (&[2, 0x69, 0, 0, 0, 7, 0, 0, 0], (2, 105, 7)),
-        (&[3, 3, 0, 0, 0, 0, 3, 0, 0, 0, 0, 0, 0, 0], (3, 3, 3)),
-        (&[3, 0], (3, 0, 0)),
-        (&[3, 1, 0xff, 0xff, 0, 0], (3, 1, 65_535)),
-        (&sixteen, (3, 16, 0)),
+    let rows: [(&[u8], Result<Answer, NoAnswer>); 17] = [
+        (&[0, 6, 0, 0, 0, 0, 0, 0, 0], refused(Reason::NoWay, 0)),
+        (
+            &[0, 1, 0, 0, 0, 69, 0, 0, 0],
+            refused(Reason::Unreadable, 69),
+        ),
+        (&[1, 7, 0, 0, 0], Ok(Answer::Number(7))),
+        (&[2, 0x69, 0, 0, 0, 7, 0, 0, 0], Ok(Answer::Two(105, 7))),
+        (
+            &[3, 3, 0, 0, 0, 0, 3, 0, 0, 0, 0, 0, 0, 0],
+            answer_coins(&[0, 3, 0]),
+        ),
+        (&[3, 0], answer_coins(&[])),
+        (&[3, 1, 0xff, 0xff, 0, 0], answer_coins(&[65_535])),
+        (&sixteen, answer_coins(&[0; 16])),
         // no answers: no byte, no form, no refusal's number, too short, too long, too many or too much
-        (&[], (255, 0, 0)),
-        (&[4, 7, 0, 0, 0], (255, 0, 0)),
-        (&[0, 8, 0, 0, 0, 0, 0, 0, 0], (255, 0, 0)),
-        (&[0, 0, 0, 0, 0, 0, 0, 0, 0], (255, 0, 0)),
-        (&[1, 7, 0, 0], (255, 0, 0)),
-        (&[2, 0x69, 0, 0, 0, 7, 0, 0, 0, 0], (255, 0, 0)),
-        (&[3, 2, 1, 0, 0, 0], (255, 0, 0)),
-        (&[3, 1, 0, 0, 1, 0], (255, 0, 0)),
-        (&seventeen, (255, 0, 0)),
+        (&[], Err(NoAnswer)),
+        (&[4, 7, 0, 0, 0], Err(NoAnswer)),
+        (&[0, 8, 0, 0, 0, 0, 0, 0, 0], Err(NoAnswer)),
+        (&[0, 0, 0, 0, 0, 0, 0, 0, 0], Err(NoAnswer)),
+        (&[1, 7, 0, 0], Err(NoAnswer)),
+        (&[2, 0x69, 0, 0, 0, 7, 0, 0, 0, 0], Err(NoAnswer)),
+        (&[3, 2, 1, 0, 0, 0], Err(NoAnswer)),
+        (&[3, 1, 0, 0, 1, 0], Err(NoAnswer)),
+        (&seventeen, Err(NoAnswer)),
     ];
-    for (bytes, numbers) in rows {
-        assert_eq!(rt; answer_numbers(bytes), numbers);
-        answered_again(bytes)?;
+    for (bytes, expected) in rows {
+        assert_eq!(rt; Answer::try_from(bytes), expected);
+        if let Ok(answer) = expected {
+            writes(bytes, |out| write_answer(answer, out))?;
+        }
     }
     Ok(())
 }
@@ -160,9 +167,6 @@ fn counts(rt: HostRuntime) -> Result<(), Fail> {
     let Some(counts) = read_counts(&[4, 0, 0, 0, 0xff, 0xff, 0, 0]) else {
         return Err(Fail::new("no counts"));
     };
-    let [first, second] = counts.as_slice() else {
-        return Err(Fail::new("not two"));
-    };
-    assert_eq!(rt; (*first, *second), (4, 65_535));
+    assert_eq!(rt; counts.0.as_slice(), [4, 65_535].as_slice());
     Ok(())
 }

@@ -1,9 +1,7 @@
 -- Numbers taken as counts, one at a time. Assumes nothing.
-use Rattle.std.proofs.Common.{◌≡◌, ℕ, zero, suc, ◌+◌, ◌<◌, ◌≤◌, true, false, ◌&&◌, ◌⊎◌, List, [], ◌∷◌, ◌++◌, length, get_or, take, set, replicate, Some, None, Option, sym, refl, ap, ◌∙◌, inl, inr, append_assoc, arith, MatchOption}
-use Rattle.std.proofs.lemmas.List.{take_more_set, length-append, length-take-le}
+use Rattle.std.proofs.Common.{◌≡◌, ℕ, zero, suc, ◌<◌, ◌≤◌, true, false, ◌&&◌, ◌⊎◌, List, [], ◌∷◌, ◌++◌, length, get_or, take, replicate, refl, ap, ◌∙◌, inl, inr, arith}
+use Rattle.std.proofs.lemmas.List.{length-append}
 use Rattle.coins.specs.Calls.{all_to}
-use Rattle.coins.specs.Values.{counts_of}
-use Rattle.coins.specs.declared.Counts.{Counts}
 use Rattle.fields.specs.Counted.{are_counts}
 
 -- a limit of a list that is put together of two
@@ -35,29 +33,14 @@ all_to-replicate m zero x h = refl
 all_to-replicate m (suc j) x h = grind (arith, all_to-replicate m j x)
 
 -- a seventeenth number, or one that is too large
-pub not_counts : (ns held rest : List ℕ) (k n : ℕ) → ns ≡ take k held ++ n ∷ rest → k ≤ length held → (16 ≤ k) ⊎ (65535 < n) → are_counts ns ≡ false
+pub not_counts : (ns held rest : List ℕ) (n : ℕ) → ns ≡ held ++ n ∷ rest → (16 ≤ length held) ⊎ (65535 < n) → are_counts ns ≡ false
 unfolding all_to
-not_counts ns held rest k n e h w =
-    let l = ap length e ∙ length-append (take k held) (n ∷ rest) in
-    let m = length-take-le k held h in
-    let a = ap (all_to 65535) e ∙ all_to-append 65535 (take k held) (n ∷ rest) in
+not_counts ns held rest n e w =
+    let l = ap length e ∙ length-append held (n ∷ rest) in
+    let a = ap (all_to 65535) e ∙ all_to-append 65535 held (n ∷ rest) in
     elim w [ inl p ↦ grind arith | inr p ↦ grind arith ]
 
 -- one more count is held
-pub count_more : (ns held rest : List ℕ) (k n : ℕ) → ns ≡ take k held ++ n ∷ rest → k < length held → n ≤ 65535 → all_to 65535 (take k held) ≡ true →
-    (ns ≡ take (k + 1) (set held k n) ++ rest) × (all_to 65535 (take (k + 1) (set held k n)) ≡ true)
+pub count_more : (held : List ℕ) (n : ℕ) → all_to 65535 held ≡ true → n ≤ 65535 → all_to 65535 (held ++ n ∷ []) ≡ true
 unfolding all_to
-count_more ns held rest k n e h m t =
-    let f = take_more_set held k n h in (
-      e ∙ sym (append_assoc (take k held) (n ∷ []) rest) ∙ ap (λ l. l ++ rest) (sym f),
-      ap (all_to 65535) f ∙ all_to-append 65535 (take k held) (n ∷ []) ∙ grind arith,
-    )
-
--- all counts are held
-pub all_counts : (r : Option Counts) (ns held : List ℕ) (k : ℕ) → ns ≡ take k held → k ≤ 16 → k ≤ length held → all_to 65535 (take k held) ≡ true →
-    MatchOption r (16 < k) (λ c. (k ≤ 16) × (counts_of c ≡ take k held)) → MatchOption r (are_counts ns ≡ false) (λ c. (are_counts ns ≡ true) × (counts_of c ≡ ns))
-all_counts None ns held k e m h t b = absurd (omega arith)
-all_counts (Some c) ns held k e m h t b =
-    let l = ap length e ∙ length-take-le k held h in
-    let a = ap (all_to 65535) e ∙ t in
-    (grind arith, b.1 ∙ sym e)
+count_more held n t h = grind (arith, all_to-append 65535 held (n ∷ []))

@@ -1,6 +1,6 @@
 -- Fields written one after another, behind some bytes, over the front of memory. Assumes nothing.
 use Rattle.std.proofs.Common.{◌≡◌, ℕ, zero, suc, ◌+◌, ◌*◌, ◌<◌, List, [], ◌∷◌, ◌++◌, length, get_or, take, drop, sym, refl, ap, ◌∙◌, append_assoc, arith}
-use Rattle.std.proofs.lemmas.List.{take_at, drop_at, drop-drop, take_more, take_all, length-append, length-take-le}
+use Rattle.std.proofs.lemmas.List.{take_at, drop_at, take_more, take_all, length-append, length-take-le}
 use Rattle.std.proofs.lemmas.Slice.{drop-append-drop}
 use Rattle.fields.specs.Bytes.{field, fields, over_front}
 
@@ -22,17 +22,6 @@ take-fields (suc j) [] = take_all (4 * suc j) [] (omega arith)
 take-fields (suc j) (n ∷ ns) =
     let e : 4 * suc j ≡ suc (suc (suc (suc (4 * j)))) = omega arith in
     ap (λ m. take m (field n ++ fields ns)) e ∙ ap (λ l. field n ++ l) (take-fields j ns)
-
--- bytes written over the front of memory, and others behind them
-pub two_parts : (head tail before : List ℕ) (n k : ℕ) → n ≡ length head → k ≡ length tail →
-    take (length head) (head ++ drop n before) ++ (tail ++ drop k (drop (length head) (head ++ drop n before))) ≡ over_front (head ++ tail) before
-two_parts head tail before n k e f =
-    let memory = head ++ drop n before in
-    let a = take_at head (drop n before) (length head) refl in
-    let b : drop k (drop (length head) memory) ≡ drop (length (head ++ tail)) before =
-    drop-drop k (length head) memory ∙ drop-append-drop n before head (length head + k) (omega arith) (sym e) ∙ ap (λ m. drop m before) (omega (arith, length-append head tail)) in
-    let g = append_assoc head tail (drop (length (head ++ tail)) before) in
-    cc
 
 -- memory, after the bytes `head` and the fields of the first i numbers were written over its front
 abbrev pub SoFar : List ℕ → List ℕ → List ℕ → ℕ → List ℕ → Type 0

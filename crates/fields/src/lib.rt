@@ -1,53 +1,76 @@
 // Numbers as bytes: a field has four bytes, the lowest first. Reading and writing them, over any bytes.
 #![tactic(auto)]
 
-ghost use Rattle.std.specs.Prelude.{◌≡◌, ◌+◌, ◌*◌, ◌<◌, ◌≤◌, true, false, ◌≢◌, [], ◌∷◌, ◌++◌, length, take, drop, MatchOption};
+ghost use Rattle.std.specs.Prelude.{◌≡◌, ◌+◌, ◌*◌, ◌<◌, ◌≤◌, true, false, ◌≢◌, [], ◌∷◌, ◌++◌, length, take, drop, map, ℕ, MatchOption};
 ghost use Rattle.fields.specs.Bytes.{field, fields, numbers, Written};
 ghost use Rattle.fields.specs.Counted.{are_counts};
 ghost use Rattle.fields.specs.Back.{FieldsBack};
-ghost use Rattle.coins.specs.Values.{counts_of};
 
-use coins::{Counts, MOST_KINDS};
+use coins::{Counts, PerKind};
+
+// What a field can hold.
+pub trait Number: Copy {
+    // It as a number.
+    ghost number: { Self → ℕ };
+
+    fn to_u32(self) -> u32
+        ensures { result ≡ number self };
+}
+
+impl Number for u16 {
+    ghost number = { λ n. n };
+
+    fn to_u32(self) -> u32 {
+        u32::from(self)
+    }
+}
+
+impl Number for u32 {
+    ghost number = { λ n. n };
+
+    fn to_u32(self) -> u32 {
+        self
+    }
+}
 
 // The number of the first field, and the bytes behind it; none where there is no whole field.
+#[tactic(auto, using(crate::proofs::Numbers::numbers_more))]
 pub fn split_number<'a>(bytes: &'a [u8]) -> Option<(u32, &'a [u8])>
     ensures { MatchOption result (length bytes.now < 4) (λ p. (numbers bytes.now ≡ p.0 ∷ numbers p.1.now) × (p.1.now ≡ drop 4 bytes.now) × (4 ≤ length bytes.now)) }
 {
-    let [a, b, c, d, rest @ ..] = bytes else {
-        return None;
-    };
-    Some((u32::from_le_bytes([*a, *b, *c, *d]), rest))
+    let (field, rest) = bytes.split_first_chunk()?;
+    Some((u32::from_le_bytes(*field), rest))
 }
 
 // The number of bytes that are one field.
+#[tactic(auto, using(crate::proofs::Numbers::numbers_none))]
 pub fn lone_number(bytes: &[u8]) -> Option<u32>
     ensures { MatchOption result (length bytes.now ≢ 4) (λ n. (length bytes.now ≡ 4) × (numbers bytes.now ≡ n ∷ [])) }
 {
-    let [a, b, c, d] = bytes else {
+    let (number, rest) = split_number(bytes)?;
+    if !rest.is_empty() {
         return None;
-    };
-    Some(u32::from_le_bytes([*a, *b, *c, *d]))
+    }
+    Some(number)
 }
 
 // The counts that bytes hold, field by field; none where there are more fields than a set has kinds, or a number is no count.
+#[tactic(auto, using(crate::proofs::Counting::not_counts), unfolding(coins::specs::Calls::all_to))]
 pub fn read_counts(bytes: &[u8]) -> Option<Counts>
-    ensures { MatchOption result (are_counts (numbers bytes.now) ≡ false) (λ c. (are_counts (numbers bytes.now) ≡ true) × (counts_of c ≡ numbers bytes.now)) }
+    ensures { MatchOption result (are_counts (numbers bytes.now) ≡ false) (λ c. (are_counts (numbers bytes.now) ≡ true) × (c.0 ≡ numbers bytes.now)) }
 {
-    let mut counts = [0u16; MOST_KINDS];
-    let mut kinds = 0;
+    let mut counts = PerKind::new();
     let mut rest = bytes;
     while let Some((number, behind)) = split_number(rest) {
         let Ok(count) = u16::try_from(number) else {
             return None;
         };
-        if kinds >= MOST_KINDS {
+        let Ok(()) = counts.push(count) else {
             return None;
-        }
-        counts[kinds] = count;
-        kinds += 1;
+        };
         rest = behind;
     }
-    Counts::new(counts, kinds)
+    Some(Counts(counts))
 }
 
 // Writes the field of a number from place `at` on.
@@ -64,7 +87,8 @@ pub fn write_bytes(head: &[u8], tail: &[u8], out: &mut [u8]) -> Option<usize>
     ensures { Written (head.now ++ tail.now) out.old out.new result }
 {
     let start = head.len();
-    if out.len() < start || out.len() - start < tail.len() {
+    let room = out.len().checked_sub(start)?;
+    if room < tail.len() {
         return None;
     }
     let end = start + tail.len();
@@ -75,36 +99,22 @@ pub fn write_bytes(head: &[u8], tail: &[u8], out: &mut [u8]) -> Option<usize>
 
 // Writes some bytes and the fields of numbers behind them over the front of `out`, and says how many bytes that is.
 // Where `out` is too short, nothing is written.
-pub fn write_numbers(head: &[u8], numbers: &[u32], out: &mut [u8]) -> Option<usize>
-    ensures { Written (head.now ++ fields numbers.now) out.old out.new result }
+pub fn write_numbers<N: Number>(head: &[u8], numbers: &[N], out: &mut [u8]) -> Option<usize>
+    ensures { Written (head.now ++ fields (map N.number numbers.now)) out.old out.new result }
 {
     let start = head.len();
-    if out.len() < start || (out.len() - start) / 4 < numbers.len() {
+    let room = out.len().checked_sub(start)?;
+    if room / 4 < numbers.len() {
         return None;
     }
     out[0..start].copy_from_slice(head);
-    for i in 0..numbers.len() {
-        put_number(out, start + 4 * i, numbers[i]);
+    for (i, number) in numbers.iter().enumerate() {
+        put_number(out, start + 4 * i, number.to_u32());
     }
     Some(start + 4 * numbers.len())
 }
 
-// The same with the fields of counts.
-pub fn write_counts(head: &[u8], counts: &Counts, out: &mut [u8]) -> Option<usize>
-    ensures { Written (head.now ++ fields (counts_of counts.now)) out.old out.new result }
-{
-    let counts = counts.as_slice();
-    let kinds = counts.len();
-    let mut numbers = [0u32; MOST_KINDS];
-    for i in 0..kinds {
-        numbers[i] = counts[i] as u32;
-    }
-    write_numbers(head, &numbers[0..kinds], out)
-}
-
 // What is read is what was written.
-pub fn fields_back_stands() -> u8
-    ensures { FieldsBack }
-{
-    0
-}
+pub fn laws_stand()
+    ensures fields_back { FieldsBack }
+{}

@@ -1,12 +1,13 @@
 -- What a line's first word and the numbers after it spell. Assumes nothing: these are definitions.
 use Rattle.std.specs.Prelude.{◌≡◌, ℕ, ◌≤◌, List, length, drop, vec_items, codes, slice_index}
+use Rattle.std.specs.Global.{Vec}
+use Rattle.wire.specs.declared.call.Call.{Call}
+use Rattle.wire.specs.declared.call.Call.TheVariants.{Fill, Pay, Sell, Could, Holds, Spoils}
 use Rattle.till.specs.declared.request.Request.{Request}
-use Rattle.till.specs.declared.request.Request.TheVariants as request
-use Rattle.till.specs.declared.request.Call.{Call}
-use Rattle.till.specs.declared.request.Call.TheVariants.{Fill, Pay, Sell, Could, Holds, Spoils}
+use Rattle.till.specs.declared.request.Request.TheVariants.{Open, Asked}
 
 -- the word and the numbers are this call
-abbrev pub SpellsCall : List ℕ → List ℕ → Call → Type 0
+abbrev pub SpellsCall : List ℕ → List ℕ → Call (Vec ℕ) → Type 0
 SpellsCall word ns (Fill i k) = (word ≡ codes "fill") × (length ns ≡ 2) × (i ≡ slice_index ns 0) × (k ≡ slice_index ns 1)
 SpellsCall word ns (Pay x) = (word ≡ codes "pay") × (length ns ≡ 1) × (x ≡ slice_index ns 0)
 SpellsCall word ns (Sell p cs) = (word ≡ codes "sell") × (1 ≤ length ns) × (length ns ≤ 17) × (p ≡ slice_index ns 0) × (vec_items cs ≡ drop 1 ns)
@@ -16,5 +17,5 @@ SpellsCall word ns (Spoils n) = (word ≡ codes "spoils") × (length ns ≡ 1) �
 
 -- the numbers behind `open` are this opening
 abbrev pub SpellsOpen : List ℕ → Request → Type 0
-SpellsOpen ns (request.Open each most vs) = (2 ≤ length ns) × (each ≡ slice_index ns 0) × (most ≡ slice_index ns 1) × (vec_items vs ≡ drop 2 ns)
-SpellsOpen ns (request.Call c) = ⊥
+SpellsOpen ns (Open l vs) = (2 ≤ length ns) × (l.each ≡ slice_index ns 0) × (l.most ≡ slice_index ns 1) × (vec_items vs ≡ drop 2 ns)
+SpellsOpen ns (Asked c) = ⊥

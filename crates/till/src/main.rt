@@ -3,12 +3,13 @@
 
 ghost use Rattle.till.specs.Answers.{Answered};
 
-use crate::opening::{Till, open_till};
-use crate::reply::Reply;
+use crate::opening::Till;
+use crate::reply::{Refused, Reply};
 use crate::request::{Request, read_request};
 use anyhow::anyhow;
 use std::env;
 use std::io::{BufRead, BufReader};
+use wire::answer::Reason;
 
 mod opening;
 mod reply;
@@ -28,20 +29,20 @@ Refused by 1: line L (from 0) can't be read. 2: out of range, or not done yet. 3
   in than the price. 6: it can't be paid. 7: more of a coin than EACH.";
 
 // What a line is answered, and whether it opened another till.
-fn answer(till: &mut Option<Till>, request: Request) -> Reply
+fn answer(till: &mut Option<Till>, request: Request) -> Result<Reply, Refused>
     ensures { Answered till.old request till.new result }
 {
     match request {
-        Request::Open { each, most, values } => match open_till(each, most, values.as_slice()) {
-            Ok(opened) => {
-                *till = Some(opened);
-                Reply::Opened
-            }
-            Err(place) => Reply::Refused { number: 3, place },
-        },
-        Request::Call(_) => {
-            let number = if till.is_some() { 2 } else { 3 };
-            Reply::Refused { number, place: 0 }
+        Request::Open { limits, values } => {
+            *till = Some(Till::open(limits, values.as_slice())?);
+            Ok(Reply::Opened)
+        }
+        Request::Asked(_) => {
+            let reason = match till {
+                Some(_) => Reason::OutOfRange,
+                None => Reason::NoTill,
+            };
+            Err(Refused { reason, place: 0 })
         }
     }
 }
@@ -51,20 +52,21 @@ fn answer_lines(rt: &HostRuntime) -> anyhow::Result<()> {
     let heap = rt.alloc();
     let mut till = None;
     for (place, line) in BufReader::new(heap, rt.stdin())?.lines(heap).enumerate() {
-        let text = match line {
-            Ok(text) => text,
-            Err(error) => return Err(anyhow!(format!(in heap;
-                "line {place} of the input: {error}"
-            )?)),
-        };
+        let text = line.map_err(|error| anyhow!("line {place} of the input: {error}"))?;
         if passed_over(text.as_str()) {
             continue;
         }
-        let reply = match read_request(heap, text.as_str())? {
+        let answered = match read_request(heap, text.as_str())? {
             Some(request) => answer(&mut till, request),
-            None => Reply::Refused { number: 1, place },
+            None => Err(Refused {
+                reason: Reason::Unreadable,
+                place,
+            }),
         };
-        println!(rt; "{reply}")?;
+        match answered {
+            Ok(reply) => println!(rt; "{reply}")?,
+            Err(refused) => println!(rt; "{refused}")?,
+        }
     }
     Ok(())
 }
@@ -81,9 +83,7 @@ fn run(rt: &HostRuntime) -> anyhow::Result<()> {
     match args.next() {
         None => answer_lines(rt),
         Some(word) if word.as_str() == "--help" => Ok(println!(rt; "{HELP}")?),
-        Some(word) => Err(anyhow!(format!(in rt.alloc();
-            "no argument but --help is known, not '{word}'"
-        )?)),
+        Some(word) => Err(anyhow!("no argument but --help is known, not '{word}'")),
     }
 }
 

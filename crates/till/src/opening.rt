@@ -1,32 +1,57 @@
 // Opening a till: the checks in their order.
+ghost use Rattle.std.specs.Prelude.{◌≡◌};
 ghost use Rattle.till.specs.Opening.{Opens};
+ghost use Rattle.till.specs.declared.opening.OpenError.TheVariants.{NoCoinSet};
 
-use coins::CoinSet;
+use coins::{CoinSet, NotCoinSet};
 
 // The program's memory serves at most so many kinds and such amounts.
 const KINDS_SERVED: usize = 8;
 
 const MOST_SERVED: u32 = 4_096;
 
-#[derive(Clone, Copy)]
-pub struct Till {
-    set: CoinSet,
-    each: u32,
-    most: u32,
+// How many coins of a kind a till holds at most, and its largest amount.
+#[derive(Clone, Copy, Debug, PartialEq, Eq)]
+pub struct Limits {
+    pub each: u32,
+    pub most: u32,
 }
 
-// A till with these limits and coins, or the place of the refusal: 0 no set of coins, 1 limits out of range, 2 more than is served.
-pub fn open_till(each: u32, most: u32, values: &[u32]) -> Result<Till, usize>
-    ensures { Opens each most values.now result }
-{
-    let Some(set) = CoinSet::from_values(values) else {
-        return Err(0);
-    };
-    if each > 1_000 || most > 1_000_000 {
-        return Err(1);
+#[derive(Clone, Copy, Debug, PartialEq, Eq)]
+pub struct Till {
+    set: CoinSet,
+    limits: Limits,
+}
+
+// Why no till is opened.
+#[derive(Clone, Copy, Debug, PartialEq, Eq)]
+pub enum OpenError {
+    NoCoinSet,
+    LimitsOutOfRange,
+    // more than the program's memory serves
+    NotServed,
+}
+
+impl From<NotCoinSet> for OpenError {
+    ghost from_gives = { λ _ e. e ≡ NoCoinSet };
+
+    fn from(_error: NotCoinSet) -> OpenError {
+        OpenError::NoCoinSet
     }
-    if set.kinds() > KINDS_SERVED || most > MOST_SERVED {
-        return Err(2);
+}
+
+impl Till {
+    // A till with these limits and coins.
+    pub fn open(limits: Limits, values: &[u32]) -> Result<Till, OpenError>
+        ensures { Opens limits values.now result }
+    {
+        let set = CoinSet::try_from(values)?;
+        if limits.each > 1_000 || limits.most > 1_000_000 {
+            return Err(OpenError::LimitsOutOfRange);
+        }
+        if set.kinds() > KINDS_SERVED || limits.most > MOST_SERVED {
+            return Err(OpenError::NotServed);
+        }
+        Ok(Till { set, limits })
     }
-    Ok(Till { set, each, most })
 }

@@ -2,26 +2,15 @@
 ghost use Rattle.std.specs.Prelude.{IfSome, IfOk};
 ghost use Rattle.till.specs.Requests.{SpellsCall, SpellsOpen};
 
+use crate::opening::Limits;
+use coins::MOST_KINDS;
 use std::alloc::{AllocError, Global};
+use wire::call::Call;
 
 #[derive(Drop)]
 pub enum Request {
-    Open {
-        each: u32,
-        most: u32,
-        values: Vec<u32>,
-    },
-    Call(Call),
-}
-
-#[derive(Drop)]
-pub enum Call {
-    Fill { coin: u32, count: u32 },
-    Pay(u32),
-    Sell { price: u32, put_in: Vec<u32> },
-    Could(u32),
-    Holds,
-    Spoils(u32),
+    Open { limits: Limits, values: Vec<u32> },
+    Asked(Call<Vec<u32>>),
 }
 
 // A number of decimal digits that fits 32 bits; no sign.
@@ -29,7 +18,7 @@ fn read_number(word: &str) -> Option<u32> {
     if word.starts_with('+') {
         return None;
     }
-    word.parse::<u32>().ok()
+    word.parse().ok()
 }
 
 // The request that a line is, if it is one.
@@ -45,32 +34,36 @@ pub fn read_request(heap: Global, line: &str) -> Result<Option<Request>, AllocEr
         };
         numbers.push(number)?;
     }
-    match name {
-        "open" => read_open(heap, numbers.as_slice()),
-        _ => match read_call(heap, name, numbers.as_slice())? {
-            Some(call) => Ok(Some(Request::Call(call))),
-            None => Ok(None),
-        },
+    if name == "open" {
+        return read_open(heap, numbers.as_slice());
     }
+    let call = read_call(heap, name, numbers.as_slice())?;
+    Ok(call.map(|call| Request::Asked(call)))
 }
 
 // The opening with these numbers.
+#[tactic(auto, using(std::proofs::lemmas::List::take_rest))]
 fn read_open(heap: Global, numbers: &[u32]) -> Result<Option<Request>, AllocError>
     ensures { IfOk result (λ o. IfSome o (λ q. SpellsOpen numbers.now q)) }
 {
     let [each, most, values @ ..] = numbers else {
         return Ok(None);
     };
-    let values = Vec::from_slice(heap, values)?;
-    Ok(Some(Request::Open {
+    let limits = Limits {
         each: *each,
         most: *most,
-        values,
-    }))
+    };
+    let values = Vec::from_slice(heap, values)?;
+    Ok(Some(Request::Open { limits, values }))
 }
 
 // The call of this name with these numbers.
-fn read_call(heap: Global, name: &str, numbers: &[u32]) -> Result<Option<Call>, AllocError>
+#[tactic(auto, using(std::proofs::lemmas::List::take_rest))]
+fn read_call(
+    heap: Global,
+    name: &str,
+    numbers: &[u32],
+) -> Result<Option<Call<Vec<u32>>>, AllocError>
     ensures { IfOk result (λ o. IfSome o (λ c. SpellsCall name.now numbers.now c)) }
 {
     let call = match (name, numbers) {
@@ -79,13 +72,10 @@ fn read_call(heap: Global, name: &str, numbers: &[u32]) -> Result<Option<Call>, 
             count: *count,
         },
         ("pay", [amount]) => Call::Pay(*amount),
-        ("sell", [price, put_in @ ..]) if put_in.len() <= coins::MOST_KINDS => {
-            let put_in = Vec::from_slice(heap, put_in)?;
-            Call::Sell {
-                price: *price,
-                put_in,
-            }
-        }
+        ("sell", [price, put_in @ ..]) if put_in.len() <= MOST_KINDS => Call::Sell {
+            price: *price,
+            put_in: Vec::from_slice(heap, put_in)?,
+        },
         ("could", [amount]) => Call::Could(*amount),
         ("holds", []) => Call::Holds,
         ("spoils", [bound]) => Call::Spoils(*bound),

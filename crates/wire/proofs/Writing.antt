@@ -3,18 +3,12 @@ use Rattle.std.proofs.Common.{◌≡◌, ℕ, ◌%◌, Bool, true, List, ◌∷�
 use Rattle.coins.specs.Calls.{sells, call_number, all_to}
 use Rattle.fields.specs.Bytes.{field, fields, numbers, Written}
 use Rattle.fields.proofs.Numbers.{fields_back}
-use Rattle.wire.specs.declared.call.Call.{Call}
 use Rattle.wire.specs.Calls.{call_fields, call_bytes}
-use Rattle.wire.specs.Meant.{call_meant}
-use Rattle.wire.specs.Reads.{whole_fields, may_write, WritesIf, WritesCall}
+use Rattle.wire.specs.Reads.{whole_fields, WritesIf}
 
-writes_if : (may : Bool) (bs before after : List ℕ) (r : Option ℕ) → may ≡ true → Written bs before after r → WritesIf may bs before after r
+pub writes_if : (may : Bool) (bs before after : List ℕ) (r : Option ℕ) → may ≡ true → Written bs before after r → WritesIf may bs before after r
 writes_if may bs before after None t w = (grind arith, w.1)
 writes_if may bs before after (Some n) t w = (t, w.0, w.1)
-
-pub writes_call : (call known : Call) (before after : List ℕ) (r : Option ℕ) → call ≡ known → may_write known ≡ true → Written (call_bytes (call_meant known)) before after r →
-    WritesCall call before after r
-writes_call call known before after r e t w = subst (λ k. WritesCall k before after r) (sym e) (writes_if (may_write known) (call_bytes (call_meant known)) before after r t w)
 
 -- the bytes of a sale: its number, the field of the price, and the coins put in as they are
 sale_bytes : (p : ℕ) (price put_in : List ℕ) → price ≡ field p → all_to 255 put_in ≡ true → length put_in % 4 ≡ 0 →

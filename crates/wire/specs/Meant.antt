@@ -1,7 +1,7 @@
 -- What calls and answers of the code stand for. Assumes nothing: these are definitions.
-use Rattle.std.specs.Prelude.{ℕ}
+use Rattle.std.specs.Prelude.{ℕ, List}
+use Rattle.std.specs.Borrow.{Bor}
 use Rattle.coins.specs.Calls as till
-use Rattle.coins.specs.Values.{counts_of}
 use Rattle.fields.specs.Bytes.{numbers}
 use Rattle.wire.specs.declared.call.Kind.{Kind}
 use Rattle.wire.specs.declared.call.Kind.TheVariants as kind
@@ -21,14 +21,18 @@ kind_number kind.Could = 3
 kind_number kind.Holds = 4
 kind_number kind.Spoils = 5
 
--- each call; the coins put in are the whole fields of their part of the bytes
-abbrev pub call_meant : Call → till.Call
-call_meant (Fill i k) = till.fills i k
-call_meant (Pay x) = till.pays x
-call_meant (Sell p cs) = till.sells p (numbers cs.now)
-call_meant (Could x) = till.could x
-call_meant Holds = till.holds
-call_meant (Spoils n) = till.spoils n
+-- each call, where `coins` tells of the coins put in so many of each
+abbrev pub call_meant_by : {P : Type 0} → (P → List ℕ) → Call P → till.Call
+call_meant_by coins (Fill i k) = till.fills i k
+call_meant_by coins (Pay x) = till.pays x
+call_meant_by coins (Sell p cs) = till.sells p (coins cs)
+call_meant_by coins (Could x) = till.could x
+call_meant_by coins Holds = till.holds
+call_meant_by coins (Spoils n) = till.spoils n
+
+-- each call that is read from bytes; the coins put in are the whole fields of their part of the bytes
+abbrev pub call_meant : Call (Bor (List ℕ)) → till.Call
+call_meant call = call_meant_by (λ bytes. numbers bytes.now) call
 
 -- the number of each reason of a refusal
 abbrev pub reason_number : Reason → ℕ
@@ -45,4 +49,4 @@ abbrev pub answer_meant : Answer → till.Answer
 answer_meant (Refused r) = till.refused (reason_number r.reason) r.place
 answer_meant (Number n) = till.number n
 answer_meant (Two a b) = till.two a b
-answer_meant (Coins ns) = till.coins (counts_of ns)
+answer_meant (Coins ns) = till.coins ns.0

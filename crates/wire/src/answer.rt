@@ -1,15 +1,16 @@
 // Answers of the till, written as bytes and read.
-ghost use Rattle.std.specs.Prelude.{◌≡◌, false, MatchOption};
+ghost use Rattle.std.specs.Prelude.{◌≡◌, false, MatchResult};
+ghost use Rattle.std.specs.Result.{result_ok};
 ghost use Rattle.fields.specs.Bytes.{Written};
 ghost use Rattle.wire.specs.Answers.{answer_bytes, is_reason, answer_of, read_answer};
 ghost use Rattle.wire.specs.Meant.{reason_number, answer_meant};
 ghost use Rattle.wire.specs.Reads.{answer_read};
 
 use coins::Counts;
-use fields::{lone_number, read_counts, split_number, write_counts, write_numbers};
+use fields::{lone_number, read_counts, split_number, write_numbers};
 
 // Why a call is refused, by its number.
-#[derive(Clone, Copy)]
+#[derive(Clone, Copy, Debug, PartialEq, Eq)]
 pub enum Reason {
     // the bytes are no call from the place on
     Unreadable = 1,
@@ -26,15 +27,19 @@ pub enum Reason {
     TooMany = 7,
 }
 
+// A number that is no reason's.
+#[derive(Clone, Copy, Debug, PartialEq, Eq)]
+pub struct UnknownReason;
+
 // A call that is turned away, and the place of what is at fault.
-#[derive(Clone, Copy)]
+#[derive(Clone, Copy, Debug, PartialEq, Eq)]
 pub struct Refusal {
     pub reason: Reason,
     pub place: u32,
 }
 
 // An answer: a refusal, one number or two, or so many of each coin.
-#[derive(Clone, Copy)]
+#[derive(Clone, Copy, Debug, PartialEq, Eq)]
 pub enum Answer {
     Refused(Refusal),
     Number(u32),
@@ -42,36 +47,59 @@ pub enum Answer {
     Coins(Counts),
 }
 
-impl Reason {
-    // The reason of this number.
-    pub fn from_number(number: u32) -> Option<Reason>
-        ensures { MatchOption result (is_reason number ≡ false) (λ k. reason_number k ≡ number) }
-    {
+// Bytes that are no answer.
+#[derive(Clone, Copy, Debug, PartialEq, Eq)]
+pub struct NoAnswer;
+
+impl TryFrom<u32> for Reason {
+    type Error = UnknownReason;
+
+    ghost try_from_gives = { λ number r. MatchResult r (λ k. reason_number k ≡ number) (λ _. is_reason number ≡ false) };
+
+    fn try_from(number: u32) -> Result<Reason, UnknownReason> {
         match number {
-            1 => Some(Reason::Unreadable),
-            2 => Some(Reason::OutOfRange),
-            3 => Some(Reason::NoTill),
-            4 => Some(Reason::NoSuchCoin),
-            5 => Some(Reason::TooLittle),
-            6 => Some(Reason::NoWay),
-            7 => Some(Reason::TooMany),
-            _ => None,
+            1 => Ok(Reason::Unreadable),
+            2 => Ok(Reason::OutOfRange),
+            3 => Ok(Reason::NoTill),
+            4 => Ok(Reason::NoSuchCoin),
+            5 => Ok(Reason::TooLittle),
+            6 => Ok(Reason::NoWay),
+            7 => Ok(Reason::TooMany),
+            _ => Err(UnknownReason),
         }
     }
 }
 
-// A call that can't be read from this place on.
-pub fn unreadable(place: u32) -> Refusal
-    ensures why { result.reason ≡ Reason.Unreadable }
-    ensures at { result.place ≡ place }
-{
-    Refusal {
-        reason: Reason::Unreadable,
-        place,
+impl Refusal {
+    // A call that can't be read from this place on.
+    pub fn unreadable(place: u32) -> Refusal
+        ensures why { result.reason ≡ Reason.Unreadable }
+        ensures at { result.place ≡ place }
+    {
+        Refusal {
+            reason: Reason::Unreadable,
+            place,
+        }
+    }
+}
+
+// The answer that bytes are, if they are one.
+impl TryFrom<&[u8]> for Answer {
+    type Error = NoAnswer;
+
+    ghost try_from_gives = { λ bytes r. answer_read (result_ok r) ≡ read_answer bytes.now };
+
+    #[tactic(auto, unfolding(crate::specs::Answers::read_answer))]
+    fn try_from(bytes: &[u8]) -> Result<Answer, NoAnswer> {
+        let [form, rest @ ..] = bytes else {
+            return Err(NoAnswer);
+        };
+        read_form(*form, rest).ok_or(NoAnswer)
     }
 }
 
 // Writes the answer over the front of `out`, and says how many bytes it has. Where `out` is too short, nothing is written.
+#[tactic(auto, unfolding(crate::specs::Answers::answer_bytes))]
 pub fn write_answer(answer: Answer, out: &mut [u8]) -> Option<usize>
     ensures { Written (answer_bytes (answer_meant answer)) out.old out.new result }
 {
@@ -82,20 +110,10 @@ pub fn write_answer(answer: Answer, out: &mut [u8]) -> Option<usize>
         Answer::Number(number) => write_numbers(&[1], &[number], out),
         Answer::Two(first, second) => write_numbers(&[2], &[first, second], out),
         Answer::Coins(counts) => {
-            let kinds = counts.as_slice().len() as u8;
-            write_counts(&[3, kinds], &counts, out)
+            let counts = counts.0.as_slice();
+            write_numbers(&[3, counts.len() as u8], counts, out)
         }
     }
-}
-
-// The answer that bytes are, if they are one.
-pub fn read_answer(bytes: &[u8]) -> Option<Answer>
-    ensures { answer_read result ≡ read_answer bytes.now }
-{
-    let [form, rest @ ..] = bytes else {
-        return None;
-    };
-    read_form(*form, rest)
 }
 
 // The answer of a form with these bytes behind it.
@@ -106,7 +124,9 @@ fn read_form(form: u8, bytes: &[u8]) -> Option<Answer>
         0 => {
             let (number, rest) = split_number(bytes)?;
             let place = lone_number(rest)?;
-            let reason = Reason::from_number(number)?;
+            let Ok(reason) = Reason::try_from(number) else {
+                return None;
+            };
             Some(Answer::Refused(Refusal { reason, place }))
         }
         1 => Some(Answer::Number(lone_number(bytes)?)),
@@ -127,7 +147,7 @@ fn read_coins(bytes: &[u8]) -> Option<Answer>
     let [kinds, rest @ ..] = bytes else {
         return None;
     };
-    if rest.len() != 4 * *kinds as usize {
+    if rest.len() != 4 * usize::from(*kinds) {
         return None;
     }
     let counts = read_counts(rest)?;

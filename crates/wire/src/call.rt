@@ -1,17 +1,17 @@
 // Calls to the till, read from bytes and written.
-ghost use Rattle.std.specs.Prelude.{◌≡◌, ◌<◌, MatchOption};
+ghost use Rattle.std.specs.Prelude.{◌≡◌, ◌<◌, MatchResult};
 ghost use Rattle.fields.specs.Bytes.{numbers};
 ghost use Rattle.coins.specs.Calls.{sells};
 ghost use Rattle.wire.specs.Calls.{call_bytes, longest, read};
 ghost use Rattle.wire.specs.Meant.{kind_number};
 ghost use Rattle.wire.specs.Reads.{ReadsFields, Reads, whole_fields, WritesIf, WritesCall};
 
-use crate::answer::{Refusal, unreadable};
+use crate::answer::Refusal;
 use coins::MOST_KINDS;
 use fields::{lone_number, split_number, write_bytes, write_numbers};
 
 // The kinds of calls, by their numbers.
-#[derive(Clone, Copy)]
+#[derive(Clone, Copy, Debug, PartialEq, Eq)]
 pub enum Kind {
     Fill = 0,
     Pay = 1,
@@ -21,33 +21,40 @@ pub enum Kind {
     Spoils = 5,
 }
 
-// A call. The coins put in at a sale are a part of the bytes that were read, a field for each kind.
-#[derive(Clone, Copy)]
-pub enum Call<'a> {
+// A number that is no kind's.
+#[derive(Clone, Copy, Debug, PartialEq, Eq)]
+pub struct UnknownKind;
+
+// A call, with the coins put in at a sale in the form that they were read in.
+#[derive(Clone, Copy, Debug, PartialEq, Eq, Drop)]
+pub enum Call<P> {
     Fill { coin: u32, count: u32 },
     Pay(u32),
-    Sell { price: u32, put_in: &'a [u8] },
+    Sell { price: u32, put_in: P },
     Could(u32),
     Holds,
     Spoils(u32),
 }
 
-impl Kind {
-    // The kind of this number.
-    pub fn from_number(number: u8) -> Option<Kind>
-        ensures { MatchOption result (5 < number) (λ k. kind_number k ≡ number) }
-    {
+impl TryFrom<u8> for Kind {
+    type Error = UnknownKind;
+
+    ghost try_from_gives = { λ number r. MatchResult r (λ k. kind_number k ≡ number) (λ _. 5 < number) };
+
+    fn try_from(number: u8) -> Result<Kind, UnknownKind> {
         match number {
-            0 => Some(Kind::Fill),
-            1 => Some(Kind::Pay),
-            2 => Some(Kind::Sell),
-            3 => Some(Kind::Could),
-            4 => Some(Kind::Holds),
-            5 => Some(Kind::Spoils),
-            _ => None,
+            0 => Ok(Kind::Fill),
+            1 => Ok(Kind::Pay),
+            2 => Ok(Kind::Sell),
+            3 => Ok(Kind::Could),
+            4 => Ok(Kind::Holds),
+            5 => Ok(Kind::Spoils),
+            _ => Err(UnknownKind),
         }
     }
+}
 
+impl Kind {
     // How many bytes a call of this kind has at most.
     pub fn longest(self) -> usize
         ensures { result ≡ longest (kind_number self) }
@@ -69,7 +76,7 @@ fn whole_fields(put_in: &[u8]) -> bool
 }
 
 // The call of a kind with these fields, if they are as many as it may have.
-fn read_fields<'a>(kind: Kind, bytes: &'a [u8]) -> Option<Call<'a>>
+fn read_fields<'a>(kind: Kind, bytes: &'a [u8]) -> Option<Call<&'a [u8]>>
     ensures { ReadsFields (kind_number kind) bytes.now result }
 {
     match kind {
@@ -98,24 +105,32 @@ fn read_fields<'a>(kind: Kind, bytes: &'a [u8]) -> Option<Call<'a>>
 }
 
 // The call that bytes are, or the refusal with the place where they cease to be one.
-pub fn read_call<'a>(bytes: &'a [u8]) -> Result<Call<'a>, Refusal>
-    ensures { Reads result (read bytes.now) }
-{
-    let [first, rest @ ..] = bytes else {
-        return Err(unreadable(0));
-    };
-    let Some(kind) = Kind::from_number(*first) else {
-        return Err(unreadable(0));
-    };
-    let Some(call) = read_fields(kind, rest) else {
-        return Err(unreadable(bytes.len().min(kind.longest()) as u32));
-    };
-    Ok(call)
+// The coins put in are a part of the bytes, a field for each kind.
+impl<'a> TryFrom<&'a [u8]> for Call<&'a [u8]> {
+    type Error = Refusal;
+
+    ghost try_from_gives = { λ bytes r. Reads r (read bytes.now) };
+
+    #[tactic(auto, unfolding(crate::specs::Calls::read))]
+    fn try_from(bytes: &'a [u8]) -> Result<Call<&'a [u8]>, Refusal> {
+        let [first, rest @ ..] = bytes else {
+            return Err(Refusal::unreadable(0));
+        };
+        let Ok(kind) = Kind::try_from(*first) else {
+            return Err(Refusal::unreadable(0));
+        };
+        let Some(call) = read_fields(kind, rest) else {
+            let place = bytes.len().min(kind.longest()) as u32;
+            return Err(Refusal::unreadable(place));
+        };
+        Ok(call)
+    }
 }
 
 // Writes the call over the front of `out`, and says how many bytes it has. Where `out` is too short, or the coins put in
 // are no whole fields or more than a set has kinds, nothing is written.
-pub fn write_call(call: Call, out: &mut [u8]) -> Option<usize>
+#[tactic(auto, using(crate::proofs::Writing::writes_if), unfolding(crate::specs::Calls::call_fields, coins::specs::Calls::call_number))]
+pub fn write_call(call: Call<&[u8]>, out: &mut [u8]) -> Option<usize>
     ensures { WritesCall call.entry out.old out.new result }
 {
     match call {
@@ -123,7 +138,7 @@ pub fn write_call(call: Call, out: &mut [u8]) -> Option<usize>
         Call::Pay(amount) => write_numbers(&[Kind::Pay as u8], &[amount], out),
         Call::Sell { price, put_in } => write_sale(price, put_in, out),
         Call::Could(amount) => write_numbers(&[Kind::Could as u8], &[amount], out),
-        Call::Holds => write_numbers(&[Kind::Holds as u8], &[], out),
+        Call::Holds => write_numbers::<u32>(&[Kind::Holds as u8], &[], out),
         Call::Spoils(bound) => write_numbers(&[Kind::Spoils as u8], &[bound], out),
     }
 }

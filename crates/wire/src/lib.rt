@@ -6,37 +6,20 @@ ghost use Rattle.wire.specs.Back.{CallsBack, CallsDiffer, AnswersBack, FrontsRef
 pub mod answer;
 pub mod call;
 
-// What was written as a call is read, and what is read as one was written.
-pub fn calls_back_stands() -> u8
-    ensures { CallsBack }
-{
-    0
-}
+// The theorems of calls and answers as bytes.
+pub fn laws_stand()
+    // What was written as a call is read, and what is read as one was written.
+    ensures calls_back { CallsBack }
 
-// Different calls have different bytes.
-pub fn calls_differ_stands() -> u8
-    ensures { CallsDiffer }
-{
-    0
-}
+    // Different calls have different bytes.
+    ensures calls_differ { CallsDiffer }
 
-// What was written as an answer is read, and what is read as one was written.
-pub fn answers_back_stands() -> u8
-    ensures { AnswersBack }
-{
-    0
-}
+    // What was written as an answer is read, and what is read as one was written.
+    ensures answers_back { AnswersBack }
 
-// Every front of a call's bytes is refused at its own length, but where it is itself a sale.
-pub fn fronts_refused_stands() -> u8
-    ensures { FrontsRefused }
-{
-    0
-}
+    // Every front of a call's bytes is refused at its own length, but where it is itself a sale.
+    ensures fronts_refused { FrontsRefused }
 
-// The place of what can't be read is the length of the longest front with which some call begins.
-pub fn place_right_stands() -> u8
-    ensures { PlaceRight }
-{
-    0
-}
+    // The place of what can't be read is the length of the longest front with which some call begins.
+    ensures place_right { PlaceRight }
+{}

@@ -1,0 +1,123 @@
+// A set of coins: made from numbers, and read.
+ghost use Rattle.std.specs.Prelude.{◌≡◌, ◌≤◌, length, MatchResult};
+ghost use Rattle.coins.specs.Values.{IsCoinSet};
+
+use crate::{LARGEST_VALUE, NoRoom, PerKind};
+use std::marker::Model;
+
+// The values of a set of coins, from the largest on.
+#[derive(Clone, Copy, Debug, PartialEq, Eq)]
+pub struct CoinSet {
+    values: PerKind,
+}
+
+// The numbers are no set of coins.
+#[derive(Clone, Copy, Debug, PartialEq, Eq)]
+pub struct NotCoinSet;
+
+impl From<NoRoom> for NotCoinSet {
+    fn from(_full: NoRoom) -> NotCoinSet {
+        NotCoinSet
+    }
+}
+
+// Clauses see the values.
+impl Model for CoinSet {
+    ghost use Rattle.std.specs.Prelude.{ℕ, List};
+    ghost use Rattle.coins.specs.Values.{IsCoinSet};
+
+    ghost Value = { List ℕ };
+
+    ghost view = { λ s. s.values };
+
+    ghost invariant = { λ s. IsCoinSet s.values };
+
+    ghost inverse = { λ vs. record { values = vs } };
+}
+
+// The set of these values, just where they are one.
+impl TryFrom<&[u32]> for CoinSet {
+    type Error = NotCoinSet;
+
+    ghost try_from_gives = { λ values r. MatchResult r (λ s. IsCoinSet values.now × (s ≡ values.now)) (λ _. IsCoinSet values.now → ⊥) };
+
+    #[tactic(auto, using(crate::proofs::Falls::one_by_one))]
+    fn try_from(values: &[u32]) -> Result<CoinSet, NotCoinSet> {
+        let mut held = PerKind::new();
+        let mut above = LARGEST_VALUE + 1;
+        for value in values {
+            if *value >= above {
+                return Err(NotCoinSet);
+            }
+            held.push(*value as u16)?;
+            above = *value;
+        }
+        if above != 1 {
+            return Err(NotCoinSet);
+        }
+        Ok(CoinSet { values: held })
+    }
+}
+
+impl CoinSet {
+    // How many kinds of coins there are.
+    pub fn kinds(&self) -> usize
+        ensures value { result ≡ length self.now }
+        ensures bound { result ≤ 16 }
+    {
+        self.values().len()
+    }
+
+    // The values, from the largest on.
+    pub fn values(&self) -> &[u16]
+        ensures value { result.now ≡ self.now }
+        ensures set { IsCoinSet result.now }
+    {
+        self.values.as_slice()
+    }
+}
+
+#[cfg(test)]
+mod tests {
+    use super::*;
+    use std::test::Fail;
+
+    // One value more than a set may have; without the first they are a set.
+    const SEVENTEEN: [u32; 17] = [
+        65_535, 50_000, 40_000, 20_000, 10_000, 5_000, 2_000, 1_000, 500, 200, 100, 50, 20, 10, 5,
+        2, 1,
+    ];
+
+    #[test]
+    fn takes_sets_of_coins(rt: HostRuntime) -> Result<(), Fail> {
+        let sets: [&[u32]; 4] = [&[1], &[25, 10, 1], &[65_535, 1], &SEVENTEEN[1..17]];
+        for values in sets {
+            let Ok(set) = CoinSet::try_from(values) else {
+                return Err(Fail::new("not taken"));
+            };
+            assert_eq!(rt; set.kinds(), values.len());
+            for (held, value) in set.values().iter().zip(values) {
+                assert_eq!(rt; u32::from(*held), *value);
+            }
+        }
+        Ok(())
+    }
+
+    #[test]
+    fn refuses_what_is_none(rt: HostRuntime) {
+        let lists: [&[u32]; 9] = [
+            &[],
+            &[0],
+            &[2],
+            &[25, 10],
+            &[25, 10, 1, 1],
+            &[10, 25, 1],
+            &[65_536, 1],
+            &[65_561, 10, 1],
+            &SEVENTEEN,
+        ];
+        for values in lists {
+            assert!(rt; CoinSet::try_from(values).is_err());
+        }
+    }
+}

@@ -1,0 +1,69 @@
+// A number for each kind of coin.
+ghost use Rattle.std.specs.Prelude.{◌≡◌, ◌<◌, ◌≤◌, [], ◌∷◌, ◌++◌, length, MatchResult};
+
+use crate::MOST_KINDS;
+use std::marker::Model;
+
+// A number for each kind of coin, from that of the largest on, for at most `MOST_KINDS` kinds.
+// The places that are left hold 0, so the same numbers are the same value.
+#[derive(Clone, Copy, Debug, PartialEq, Eq)]
+pub struct PerKind {
+    numbers: [u16; MOST_KINDS],
+    kinds: usize,
+}
+
+// There are `MOST_KINDS` numbers already.
+#[derive(Clone, Copy, Debug, PartialEq, Eq)]
+pub struct NoRoom;
+
+// Clauses see the numbers.
+impl Model for PerKind {
+    ghost use Rattle.std.specs.Prelude.{◌≡◌, ℕ, ◌-◌, ◌≤◌, List, ◌++◌, length, take, drop, replicate};
+    ghost use Rattle.std.proofs.Common.{arith};
+    ghost use Rattle.coins.specs.Places.{filled, length-taken};
+
+    ghost Value = { List ℕ };
+
+    ghost view = { λ p. take p.kinds p.numbers };
+
+    ghost invariant = { λ p. (p.kinds ≤ 16) × (length p.numbers ≡ 16) × (drop p.kinds p.numbers ≡ replicate (16 - p.kinds) 0) };
+
+    ghost inverse = { λ ns. record { numbers = ns ++ replicate (16 - length ns) 0; kinds = length ns } };
+
+    ghost inverse_ok = { λ p h i. record {
+      numbers = filled p.kinds p.numbers h.0 h.1 h.2 i;
+      kinds = length-taken p.kinds p.numbers h.0 h.1 i;
+    } };
+}
+
+impl PerKind {
+    // No number yet.
+    pub fn new() -> PerKind
+        ensures { result ≡ [] }
+    {
+        PerKind {
+            numbers: [0; MOST_KINDS],
+            kinds: 0,
+        }
+    }
+
+    // A number for the next kind of coin.
+    pub fn push(&mut self, number: u16) -> Result<(), NoRoom>
+        ensures { MatchResult result (λ _. (length self.old < 16) × (self.new ≡ self.old ++ number ∷ [])) (λ _. (length self.old ≡ 16) × (self.new ≡ self.old)) }
+    {
+        if self.kinds == MOST_KINDS {
+            return Err(NoRoom);
+        }
+        self.numbers[self.kinds] = number;
+        self.kinds += 1;
+        Ok(())
+    }
+
+    // The numbers, from that of the largest coin on.
+    pub fn as_slice(&self) -> &[u16]
+        ensures value { result.now ≡ self.now }
+        ensures bound { length result.now ≤ 16 }
+    {
+        &self.numbers[0..self.kinds]
+    }
+}
