@@ -1,6 +1,6 @@
 -- `falling`, one value at a time. Assumes nothing.
 use Rattle.std.proofs.Common.{◌≡◌, ℕ, ◌+◌, ◌<◌, ◌≤◌, Bool, ◌&&◌, eqb, ltb, leb, List, [], ◌∷◌, get_or, drop, length, refl, ap, arith}
-use Rattle.std.proofs.lemmas.List.{drop_more, drop_all, take_more, take_all, length_push}
+use Rattle.std.proofs.lemmas.List.{drop_more, drop_all}
 use Rattle.coins.specs.Coins.{falling}
 
 -- each value is below the one before it, the first below a, and the last is 1
@@ -27,5 +27,5 @@ pub falls_end : (a i : ℕ) (vs : List ℕ) → length vs ≤ i → falls_below 
 unfolding falls_below
 falls_end a i vs h = ap (falls_below a) (drop_all i vs h)
 
--- what goes through the values one by one needs
-pub ruleset one_by_one = (falling_below, falls_more, falls_end, take_more, take_all, length_push)
+-- what a loop through the values needs
+pub ruleset falls = (falling_below, falls_more, falls_end)

@@ -41,7 +41,7 @@ impl TryFrom<&[u32]> for CoinSet {
 
     ghost try_from_gives = { λ values r. MatchResult r (λ s. IsCoinSet values.now × (s ≡ values.now)) (λ _. IsCoinSet values.now → ⊥) };
 
-    #[tactic(auto, using(crate::proofs::Falls::one_by_one))]
+    #[tactic(auto, using(crate::proofs::Falls::falls, crate::proofs::Held::held_more))]
     fn try_from(values: &[u32]) -> Result<CoinSet, NotCoinSet> {
         let mut held = PerKind::new();
         let mut above = LARGEST_VALUE + 1;

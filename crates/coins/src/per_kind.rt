@@ -36,6 +36,22 @@ impl Model for PerKind {
     } };
 }
 
+// These numbers, if they are no more than `MOST_KINDS`.
+impl TryFrom<&[u16]> for PerKind {
+    type Error = NoRoom;
+
+    ghost try_from_gives = { λ numbers r. MatchResult r (λ p. (length numbers.now ≤ 16) × (p ≡ numbers.now)) (λ _. 16 < length numbers.now) };
+
+    #[tactic(auto, using(crate::proofs::Held::held_more))]
+    fn try_from(numbers: &[u16]) -> Result<PerKind, NoRoom> {
+        let mut taken = PerKind::new();
+        for number in numbers {
+            taken.push(*number)?;
+        }
+        Ok(taken)
+    }
+}
+
 impl PerKind {
     // No number yet.
     pub fn new() -> PerKind

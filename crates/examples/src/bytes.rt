@@ -108,13 +108,8 @@ fn refused(reason: Reason, place: u32) -> Result<Answer, NoAnswer> {
 
 // The answer of so many of each coin.
 fn answer_coins(numbers: &[u16]) -> Result<Answer, NoAnswer> {
-    let mut counts = PerKind::new();
-    for number in numbers {
-        if counts.push(*number).is_err() {
-            return Err(NoAnswer);
-        }
-    }
-    Ok(Answer::Coins(Counts(counts)))
+    let numbers = PerKind::try_from(numbers).map_err(|_| NoAnswer)?;
+    Ok(Answer::Coins(Counts(numbers)))
 }
 
 #[test]

@@ -8,7 +8,7 @@ use Rattle.till.specs.declared.reply.Reply.{Reply}
 use Rattle.till.specs.declared.reply.Reply.TheVariants.{Opened}
 use Rattle.till.specs.declared.reply.Refused.{Refused}
 use Rattle.till.specs.declared.request.Request.{Request}
-use Rattle.till.specs.declared.request.Request.TheVariants.{Open, Asked}
+use Rattle.till.specs.declared.request.Request.TheVariants.{Open, Call}
 use Rattle.till.specs.Opening.{Opens}
 use Rattle.till.specs.Replies.{refused_opening}
 
@@ -20,4 +20,4 @@ OpenedBy before (Err error) after r = (after ≡ before) × (r ≡ Err (refused_
 -- no call is done yet: out of range where a till is open, else there is no till
 abbrev pub Answered : Option Till → Request → Option Till → Result Reply Refused → Type 0
 Answered before (Open l vs) after r = (o : Result Till OpenError) × Opens l (vec_items vs) o × OpenedBy before o after r
-Answered before (Asked c) after r = (after ≡ before) × (r ≡ Err (record { reason = pick (is_some before) OutOfRange NoTill; place = 0 }))
+Answered before (Call c) after r = (after ≡ before) × (r ≡ Err (record { reason = pick (is_some before) OutOfRange NoTill; place = 0 }))

@@ -1,5 +1,5 @@
 -- What opening a till answers. Assumes nothing: these are definitions.
-use Rattle.std.specs.Prelude.{◌≡◌, ℕ, suc, ◌&&◌, List, length, Result, MatchResult, nat_le}
+use Rattle.std.specs.Prelude.{◌≡◌, ℕ, ◌&&◌, List, length, Some, None, Option, Result, MatchResult, nat_le}
 use Rattle.coins.specs.Coins.{pick, falling}
 use Rattle.till.specs.declared.opening.Limits.{Limits}
 use Rattle.till.specs.declared.opening.Till.{Till}
@@ -12,12 +12,13 @@ place_of NoCoinSet = 0
 place_of LimitsOutOfRange = 1
 place_of NotServed = 2
 
--- one more than the place at which opening is refused, or 0: no set of coins, then limits out of range, then more than the program's memory serves
-abbrev pub opening_refused : ℕ → ℕ → List ℕ → ℕ
-opening_refused each most vs =
-    pick (nat_le (length vs) 16 && falling vs) (pick (nat_le each 1000 && nat_le most 1000000) (pick (nat_le (length vs) 8 && nat_le most 4096) 0 3) 2) 1
+-- why no till is opened, if none is: no set of coins, then limits out of range, then more than the program's memory serves
+abbrev pub opening_error : Limits → List ℕ → Option OpenError
+opening_error l vs =
+    pick (nat_le (length vs) 16 && falling vs)
+    (pick (nat_le l.each 1000 && nat_le l.most 1000000) (pick (nat_le (length vs) 8 && nat_le l.most 4096) None (Some NotServed)) (Some LimitsOutOfRange))
+    (Some NoCoinSet)
 
 -- a till with these limits and coins, or why there is none
 abbrev pub Opens : Limits → List ℕ → Result Till OpenError → Type 0
-Opens l vs r =
-    MatchResult r (λ t. (opening_refused l.each l.most vs ≡ 0) × (t.limits ≡ l) × (t.set ≡ vs)) (λ error. opening_refused l.each l.most vs ≡ suc (place_of error))
+Opens l vs r = MatchResult r (λ t. (opening_error l vs ≡ None) × (t.limits ≡ l) × (t.set ≡ vs)) (λ error. opening_error l vs ≡ Some error)

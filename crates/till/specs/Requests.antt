@@ -4,7 +4,7 @@ use Rattle.std.specs.Global.{Vec}
 use Rattle.wire.specs.declared.call.Call.{Call}
 use Rattle.wire.specs.declared.call.Call.TheVariants.{Fill, Pay, Sell, Could, Holds, Spoils}
 use Rattle.till.specs.declared.request.Request.{Request}
-use Rattle.till.specs.declared.request.Request.TheVariants.{Open, Asked}
+use Rattle.till.specs.declared.request.Request.TheVariants as request
 
 -- the word and the numbers are this call
 abbrev pub SpellsCall : List ℕ → List ℕ → Call (Vec ℕ) → Type 0
@@ -17,5 +17,5 @@ SpellsCall word ns (Spoils n) = (word ≡ codes "spoils") × (length ns ≡ 1) �
 
 -- the numbers behind `open` are this opening
 abbrev pub SpellsOpen : List ℕ → Request → Type 0
-SpellsOpen ns (Open l vs) = (2 ≤ length ns) × (l.each ≡ slice_index ns 0) × (l.most ≡ slice_index ns 1) × (vec_items vs ≡ drop 2 ns)
-SpellsOpen ns (Asked c) = ⊥
+SpellsOpen ns (request.Open l vs) = (2 ≤ length ns) × (l.each ≡ slice_index ns 0) × (l.most ≡ slice_index ns 1) × (vec_items vs ≡ drop 2 ns)
+SpellsOpen ns (request.Call c) = ⊥

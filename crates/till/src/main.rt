@@ -37,7 +37,7 @@ fn answer(till: &mut Option<Till>, request: Request) -> Result<Reply, Refused>
             *till = Some(Till::open(limits, values.as_slice())?);
             Ok(Reply::Opened)
         }
-        Request::Asked(_) => {
+        Request::Call(_) => {
             let reason = match till {
                 Some(_) => Reason::OutOfRange,
                 None => Reason::NoTill,

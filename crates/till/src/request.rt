@@ -10,7 +10,7 @@ use wire::call::Call;
 #[derive(Drop)]
 pub enum Request {
     Open { limits: Limits, values: Vec<u32> },
-    Asked(Call<Vec<u32>>),
+    Call(Call<Vec<u32>>),
 }
 
 // A number of decimal digits that fits 32 bits; no sign.
@@ -38,7 +38,7 @@ pub fn read_request(heap: Global, line: &str) -> Result<Option<Request>, AllocEr
         return read_open(heap, numbers.as_slice());
     }
     let call = read_call(heap, name, numbers.as_slice())?;
-    Ok(call.map(|call| Request::Asked(call)))
+    Ok(call.map(|call| Request::Call(call)))
 }
 
 // The opening with these numbers.

@@ -20,13 +20,10 @@ answers_back (coins ns) h =
     let e = numbers_back ns (all_to_more 65535 4294967295 ns (omega arith) (grind arith)) in
     grind (arith, e, length-fields ns)
 
-none_some : (a : Answer) → None ≡ Some a → ⊥
-none_some a e = let z : ◌≡◌ {A = ℕ} 0 1 = cc in omega arith
-
 -- what a test lets through
 picked : (b : Bool) (x a : Answer) → pick b (Some x) None ≡ Some a → (b ≡ true) × (x ≡ a)
 picked true x a e = (refl, cc)
-picked false x a e = absurd (none_some a e)
+picked false x a e = absurd cc
 
 -- the numbers of whole fields
 first_number : (bs : List ℕ) → all_to 255 bs ≡ true → (i : ℕ) → get_or (numbers bs) i 0 ≤ 4294967295
@@ -53,7 +50,7 @@ forth (suc zero) bs a t e =
 forth (suc (suc zero)) bs a t e =
     let (h, is) = picked (eqb (length bs) 8) _ a e in
     subst (Has 2 bs) is ((first_number bs t 0, first_number bs t 1), ap (λ l. 2 ∷ l) (two_fields bs t (grind arith)))
-forth (suc (suc (suc zero))) [] a t e = absurd (none_some a e)
+forth (suc (suc (suc zero))) [] a t e = absurd cc
 forth (suc (suc (suc zero))) (n ∷ bs) a t e =
     let (h, is) = picked (eqb (suc (length bs)) (1 + 4 * n) && are_counts (numbers bs)) _ a e in
     let whole : length bs ≡ 4 * n = grind arith in
@@ -64,7 +61,7 @@ forth (suc (suc (suc (suc k)))) bs a t e = absurd (grind arith)
 
 answers_forth : (bs : List ℕ) (a : Answer) → all_to 255 bs ≡ true → read_answer bs ≡ Some a → IsAnswer a × (answer_bytes a ≡ bs)
 unfolding Has read_answer
-answers_forth [] a t e = absurd (none_some a e)
+answers_forth [] a t e = absurd cc
 answers_forth (k ∷ bs) a t e = forth k bs a (all_to_first 255 k bs t).1 e
 
 pub answers_back_stands : AnswersBack

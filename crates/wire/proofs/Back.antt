@@ -1,6 +1,6 @@
 -- Calls are read as they were written. Assumes nothing.
-use Rattle.std.proofs.Common.{◌≡◌, ℕ, zero, suc, ◌*◌, ◌<◌, ◌≤◌, true, List, [], ◌∷◌, length, get_or, drop, sym, refl, ap, ◌∙◌, subst, arith}
-use Rattle.std.proofs.lemmas.List.{nil_from_length}
+use Rattle.std.proofs.Common.{◌≡◌, ℕ, zero, suc, ◌*◌, ◌≤◌, true, List, [], ◌∷◌, length, get_or, sym, refl, ap, ◌∙◌, subst, arith}
+use Rattle.std.proofs.lemmas.List.{nil_from_length, drop_more}
 use Rattle.coins.specs.Calls.{Call, fills, pays, sells, could, holds, spoils, garbled, call_number, all_to}
 use Rattle.fields.specs.Bytes.{fields, numbers}
 use Rattle.fields.proofs.Numbers.{all_to_first, numbers_back, fields_back, numbers_fit, length_whole}
@@ -51,17 +51,13 @@ one_of [] h = absurd (omega arith)
 one_of (a ∷ []) h = refl
 one_of (a ∷ (b ∷ ns)) h = absurd (omega arith)
 
-first_and_rest : (ns : List ℕ) → 0 < length ns → get_or ns 0 0 ∷ drop 1 ns ≡ ns
-first_and_rest [] h = absurd (omega arith)
-first_and_rest (a ∷ ns) h = refl
-
 -- a number, and as many fields as a call of it may have, are those of a call
 pub fields_of_call : (k : ℕ) (ns : List ℕ) → k ≤ 5 → may_have k (suc (4 * length ns)) ≡ true →
     (call_number (call_of k ns) ≡ k) × (call_fields (call_of k ns) ≡ ns) × (length ns ≤ 17)
 unfolding call_number call_fields
 fields_of_call zero ns h t = (refl, two_of ns (grind arith), grind arith)
 fields_of_call (suc zero) ns h t = (refl, one_of ns (grind arith), grind arith)
-fields_of_call (suc (suc zero)) ns h t = (refl, first_and_rest ns (grind arith), grind arith)
+fields_of_call (suc (suc zero)) ns h t = (refl, sym (drop_more ns 0 0 (grind arith)), grind arith)
 fields_of_call (suc (suc (suc zero))) ns h t = (refl, one_of ns (grind arith), grind arith)
 fields_of_call (suc (suc (suc (suc zero)))) ns h t = (refl, sym (nil_from_length ns (grind arith)), grind arith)
 fields_of_call (suc (suc (suc (suc (suc zero))))) ns h t = (refl, one_of ns (grind arith), grind arith)

@@ -1,15 +1,14 @@
 -- What reading and writing give. Assumes nothing: these are definitions.
-use Rattle.std.specs.Prelude.{◌≡◌, ℕ, suc, ◌%◌, Bool, true, false, ◌&&◌, List, length, Some, None, Option, Result, MatchOption, MatchResult, ◌==◌, nat_le}
+use Rattle.std.specs.Prelude.{◌≡◌, ℕ, suc, ◌%◌, Bool, true, false, ◌&&◌, List, length, Option, Result, MatchOption, MatchResult, ◌==◌, nat_le}
 use Rattle.std.specs.Borrow.{Bor}
 use Rattle.coins.specs.Calls as till
 use Rattle.wire.specs.declared.call.Call.{Call}
 use Rattle.wire.specs.declared.call.Call.TheVariants.{Fill, Pay, Sell, Could, Holds, Spoils}
-use Rattle.wire.specs.declared.answer.Answer.{Answer}
 use Rattle.wire.specs.declared.answer.Refusal.{Refusal}
 use Rattle.wire.specs.declared.answer.Reason.TheVariants.{Unreadable}
 use Rattle.fields.specs.Bytes.{numbers, over_front}
 use Rattle.wire.specs.Calls.{call_bytes, may_have, call_of}
-use Rattle.wire.specs.Meant.{call_meant, answer_meant}
+use Rattle.wire.specs.Meant.{call_meant}
 
 -- the call of number k with the fields of these bytes, if they are as many as it may have
 abbrev pub ReadsFields : ℕ → List ℕ → Option (Call (Bor (List ℕ))) → Type 0
@@ -40,8 +39,3 @@ WritesIf may bs before after r =
 
 abbrev pub WritesCall : Call (Bor (List ℕ)) → List ℕ → List ℕ → Option ℕ → Type 0
 WritesCall c before after r = WritesIf (may_write c) (call_bytes (call_meant c)) before after r
-
--- the answer that was read, if one was
-abbrev pub answer_read : Option Answer → Option till.Answer
-answer_read (Some a) = Some (answer_meant a)
-answer_read None = None

@@ -1,10 +1,10 @@
 // Answers of the till, written as bytes and read.
 ghost use Rattle.std.specs.Prelude.{◌≡◌, false, MatchResult};
+ghost use Rattle.std.specs.Option.{option_map};
 ghost use Rattle.std.specs.Result.{result_ok};
 ghost use Rattle.fields.specs.Bytes.{Written};
 ghost use Rattle.wire.specs.Answers.{answer_bytes, is_reason, answer_of, read_answer};
 ghost use Rattle.wire.specs.Meant.{reason_number, answer_meant};
-ghost use Rattle.wire.specs.Reads.{answer_read};
 
 use coins::Counts;
 use fields::{lone_number, read_counts, split_number, write_numbers};
@@ -87,7 +87,7 @@ impl Refusal {
 impl TryFrom<&[u8]> for Answer {
     type Error = NoAnswer;
 
-    ghost try_from_gives = { λ bytes r. answer_read (result_ok r) ≡ read_answer bytes.now };
+    ghost try_from_gives = { λ bytes r. option_map answer_meant (result_ok r) ≡ read_answer bytes.now };
 
     #[tactic(auto, unfolding(crate::specs::Answers::read_answer))]
     fn try_from(bytes: &[u8]) -> Result<Answer, NoAnswer> {
@@ -118,7 +118,7 @@ pub fn write_answer(answer: Answer, out: &mut [u8]) -> Option<usize>
 
 // The answer of a form with these bytes behind it.
 fn read_form(form: u8, bytes: &[u8]) -> Option<Answer>
-    ensures { answer_read result ≡ answer_of form bytes.now }
+    ensures { option_map answer_meant result ≡ answer_of form bytes.now }
 {
     match form {
         0 => {
@@ -142,7 +142,7 @@ fn read_form(form: u8, bytes: &[u8]) -> Option<Answer>
 
 // Coins, by their count and how many of each.
 fn read_coins(bytes: &[u8]) -> Option<Answer>
-    ensures { answer_read result ≡ answer_of 3 bytes.now }
+    ensures { option_map answer_meant result ≡ answer_of 3 bytes.now }
 {
     let [kinds, rest @ ..] = bytes else {
         return None;
