@@ -49,6 +49,7 @@ impl TryFrom<&[u32]> for CoinSet {
             if *value >= above {
                 return Err(NotCoinSet);
             }
+            // `as`, since the test above shows that it fits: `try_from` would test again.
             held.push(*value as u16)?;
             above = *value;
         }

@@ -6,6 +6,7 @@ use std::marker::Model;
 
 // A number for each kind of coin, from that of the largest on, for at most `MOST_KINDS` kinds.
 // The places that are left hold 0, so the same numbers are the same value.
+// An array with its length beside it, since nothing here allocates, and the toolchain's `ArrayVec` can't be copied.
 #[derive(Clone, Copy, Debug, PartialEq, Eq)]
 pub struct PerKind {
     numbers: [u16; MOST_KINDS],
@@ -19,7 +20,6 @@ pub struct NoRoom;
 // Clauses see the numbers.
 impl Model for PerKind {
     ghost use Rattle.std.specs.Prelude.{◌≡◌, ℕ, ◌-◌, ◌≤◌, List, ◌++◌, length, take, drop, replicate};
-    ghost use Rattle.std.proofs.Common.{arith};
     ghost use Rattle.coins.specs.Places.{filled, length-taken};
 
     ghost Value = { List ℕ };

@@ -55,6 +55,7 @@ pub fn lone_number(bytes: &[u8]) -> Option<u32>
 }
 
 // The counts that bytes hold, field by field; none where there are more fields than a set has kinds, or a number is no count.
+// No `TryFrom`: the type is of another crate, and one around it would be no plainer.
 #[tactic(auto, using(crate::proofs::Counting::not_counts), unfolding(coins::specs::Calls::all_to))]
 pub fn read_counts(bytes: &[u8]) -> Option<Counts>
     ensures { MatchOption result (are_counts (numbers bytes.now) ≡ false) (λ c. (are_counts (numbers bytes.now) ≡ true) × (c.0 ≡ numbers bytes.now)) }
@@ -82,7 +83,7 @@ fn put_number(out: &mut [u8], at: usize, number: u32)
 }
 
 // Writes some bytes and others behind them over the front of `out`, and says how many bytes that is.
-// Where `out` is too short, nothing is written.
+// Where `out` is too short, nothing is written; a writer with a place of its own could not promise that.
 pub fn write_bytes(head: &[u8], tail: &[u8], out: &mut [u8]) -> Option<usize>
     ensures { Written (head.now ++ tail.now) out.old out.new result }
 {

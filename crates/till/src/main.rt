@@ -38,9 +38,10 @@ fn answer(till: &mut Option<Till>, request: Request) -> Result<Reply, Refused>
             Ok(Reply::Opened)
         }
         Request::Call(_) => {
-            let reason = match till {
-                Some(_) => Reason::OutOfRange,
-                None => Reason::NoTill,
+            let reason = if till.is_some() {
+                Reason::OutOfRange
+            } else {
+                Reason::NoTill
             };
             Err(Refused { reason, place: 0 })
         }

@@ -23,13 +23,13 @@ pub struct Till {
     limits: Limits,
 }
 
-// Why no till is opened.
+// Why no till is opened, by the place that is told.
 #[derive(Clone, Copy, Debug, PartialEq, Eq)]
 pub enum OpenError {
-    NoCoinSet,
-    LimitsOutOfRange,
+    NoCoinSet = 0,
+    LimitsOutOfRange = 1,
     // more than the program's memory serves
-    NotServed,
+    NotServed = 2,
 }
 
 impl From<NotCoinSet> for OpenError {

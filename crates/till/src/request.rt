@@ -13,7 +13,7 @@ pub enum Request {
     Call(Call<Vec<u32>>),
 }
 
-// A number of decimal digits that fits 32 bits; no sign.
+// A number of decimal digits that fits 32 bits; no sign, which `parse` alone would take.
 fn read_number(word: &str) -> Option<u32> {
     if word.starts_with('+') {
         return None;
@@ -21,7 +21,7 @@ fn read_number(word: &str) -> Option<u32> {
     word.parse().ok()
 }
 
-// The request that a line is, if it is one.
+// The request that a line is, if it is one. No `FromStr`, here or in the two steps below: it could not be given memory.
 pub fn read_request(heap: Global, line: &str) -> Result<Option<Request>, AllocError> {
     let mut words = line.split_whitespace();
     let Some(name) = words.next() else {

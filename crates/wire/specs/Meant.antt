@@ -1,5 +1,5 @@
 -- What calls and answers of the code stand for. Assumes nothing: these are definitions.
-use Rattle.std.specs.Prelude.{ℕ, List}
+use Rattle.std.specs.Prelude.{ℕ, List, ◌++◌, codes, decimal}
 use Rattle.std.specs.Borrow.{Bor}
 use Rattle.coins.specs.Calls as till
 use Rattle.fields.specs.Bytes.{numbers}
@@ -43,6 +43,10 @@ reason_number NoSuchCoin = 4
 reason_number TooLittle = 5
 reason_number NoWay = 6
 reason_number TooMany = 7
+
+-- what is printed for a refusal, with its place as it is printed
+abbrev pub refusal_text : Reason → List ℕ → List ℕ
+refusal_text reason place = codes "refused " ++ (decimal (reason_number reason) ++ (codes " at " ++ place))
 
 -- each answer
 abbrev pub answer_meant : Answer → till.Answer

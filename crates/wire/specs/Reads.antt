@@ -16,7 +16,7 @@ ReadsFields k bs r =
     MatchOption r (may_have k (suc (length bs)) ≡ false) (λ call. (may_have k (suc (length bs)) ≡ true) × (call_meant call ≡ call_of k (numbers bs)))
 
 -- the call, or the refusal of what is garbled, with its place
-abbrev pub Reads : Result (Call (Bor (List ℕ))) Refusal → till.Call → Type 0
+abbrev pub Reads : Result (Call (Bor (List ℕ))) (Refusal ℕ) → till.Call → Type 0
 Reads r c = MatchResult r (λ call. call_meant call ≡ c) (λ refusal. (refusal.reason ≡ Unreadable) × (till.garbled refusal.place ≡ c))
 
 -- coins put in that are whole fields, at most 16

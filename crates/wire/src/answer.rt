@@ -4,10 +4,11 @@ ghost use Rattle.std.specs.Option.{option_map};
 ghost use Rattle.std.specs.Result.{result_ok};
 ghost use Rattle.fields.specs.Bytes.{Written};
 ghost use Rattle.wire.specs.Answers.{answer_bytes, is_reason, answer_of, read_answer};
-ghost use Rattle.wire.specs.Meant.{reason_number, answer_meant};
+ghost use Rattle.wire.specs.Meant.{reason_number, refusal_text, answer_meant};
 
 use coins::Counts;
 use fields::{lone_number, read_counts, split_number, write_numbers};
+use std::fmt;
 
 // Why a call is refused, by its number.
 #[derive(Clone, Copy, Debug, PartialEq, Eq)]
@@ -31,11 +32,11 @@ pub enum Reason {
 #[derive(Clone, Copy, Debug, PartialEq, Eq)]
 pub struct UnknownReason;
 
-// A call that is turned away, and the place of what is at fault.
+// Why a call or a line is turned away, and the place of what is at fault.
 #[derive(Clone, Copy, Debug, PartialEq, Eq)]
-pub struct Refusal {
+pub struct Refusal<P = u32> {
     pub reason: Reason,
-    pub place: u32,
+    pub place: P,
 }
 
 // An answer: a refusal, one number or two, or so many of each coin.
@@ -83,6 +84,15 @@ impl Refusal {
     }
 }
 
+impl<P: fmt::Display> fmt::Display for Refusal<P> {
+    ghost output = { λ r. option_map (refusal_text r.reason) (P.output r.place) };
+
+    fn fmt<W: fmt::Write>(&self, f: &mut fmt::Formatter<W>) -> fmt::Result {
+        let number = self.reason as u32;
+        write!(f, "refused {number} at {}", self.place)
+    }
+}
+
 // The answer that bytes are, if they are one.
 impl TryFrom<&[u8]> for Answer {
     type Error = NoAnswer;
@@ -116,7 +126,8 @@ pub fn write_answer(answer: Answer, out: &mut [u8]) -> Option<usize>
     }
 }
 
-// The answer of a form with these bytes behind it.
+// The answer of a form with these bytes behind it. The form stays a byte: it stands once here and once in
+// `write_answer`, and an enum of forms would be 25 lines more and no plainer.
 fn read_form(form: u8, bytes: &[u8]) -> Option<Answer>
     ensures { option_map answer_meant result ≡ answer_of form bytes.now }
 {
@@ -140,7 +151,7 @@ fn read_form(form: u8, bytes: &[u8]) -> Option<Answer>
     }
 }
 
-// Coins, by their count and how many of each.
+// Coins, by their count and how many of each: a step of the reading above, and no conversion of its own.
 fn read_coins(bytes: &[u8]) -> Option<Answer>
     ensures { option_map answer_meant result ≡ answer_of 3 bytes.now }
 {

@@ -10,7 +10,7 @@ use crate::answer::Refusal;
 use coins::MOST_KINDS;
 use fields::{lone_number, split_number, write_bytes, write_numbers};
 
-// The kinds of calls, by their numbers.
+// The kinds of calls, by their numbers. Clauses name them by `kind_number`, since an enum can have no model.
 #[derive(Clone, Copy, Debug, PartialEq, Eq)]
 pub enum Kind {
     Fill = 0,
@@ -75,7 +75,8 @@ fn whole_fields(put_in: &[u8]) -> bool
     put_in.len() % 4 == 0 && put_in.len() <= 4 * MOST_KINDS
 }
 
-// The call of a kind with these fields, if they are as many as it may have.
+// The call of a kind with these fields, if they are as many as it may have: a step of the reading below, and no
+// conversion of its own.
 fn read_fields<'a>(kind: Kind, bytes: &'a [u8]) -> Option<Call<&'a [u8]>>
     ensures { ReadsFields (kind_number kind) bytes.now result }
 {
