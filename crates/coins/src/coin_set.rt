@@ -2,7 +2,7 @@
 ghost use Rattle.std.specs.Prelude.{◌≡◌, ◌≤◌, length, MatchResult};
 ghost use Rattle.coins.specs.Values.{IsCoinSet};
 
-use crate::{LARGEST_VALUE, NoRoom, PerKind};
+use crate::{LARGEST_VALUE, PerKind};
 use std::marker::Model;
 
 // The values of a set of coins, from the largest on.
@@ -14,12 +14,6 @@ pub struct CoinSet {
 // The numbers are no set of coins.
 #[derive(Clone, Copy, Debug, PartialEq, Eq)]
 pub struct NotCoinSet;
-
-impl From<NoRoom> for NotCoinSet {
-    fn from(_full: NoRoom) -> NotCoinSet {
-        NotCoinSet
-    }
-}
 
 // Clauses see the values.
 impl Model for CoinSet {
@@ -50,7 +44,7 @@ impl TryFrom<&[u32]> for CoinSet {
                 return Err(NotCoinSet);
             }
             // `as`, since the test above shows that it fits: `try_from` would test again.
-            held.push(*value as u16)?;
+            held.push(*value as u16).map_err(|_| NotCoinSet)?;
             above = *value;
         }
         if above != 1 {
@@ -93,9 +87,7 @@ mod tests {
     fn takes_sets_of_coins(rt: HostRuntime) -> Result<(), Fail> {
         let sets: [&[u32]; 4] = [&[1], &[25, 10, 1], &[65_535, 1], &SEVENTEEN[1..17]];
         for values in sets {
-            let Ok(set) = CoinSet::try_from(values) else {
-                return Err(Fail::new("not taken"));
-            };
+            let set = CoinSet::try_from(values).map_err(|_| Fail::new("not taken"))?;
             assert_eq!(rt; set.kinds(), values.len());
             for (held, value) in set.values().iter().zip(values) {
                 assert_eq!(rt; u32::from(*held), *value);

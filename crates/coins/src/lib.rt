@@ -1,6 +1,8 @@
 // A set of coins by value, and so many of each; what makes it one is in its type. The definitions of the whole till are in specs/.
 #![tactic(auto)]
 
+ghost use Rattle.std.specs.Prelude.{◌≡◌, ◌≤◌, length};
+
 mod coin_set;
 mod per_kind;
 
@@ -16,3 +18,13 @@ pub const LARGEST_VALUE: u32 = 65_535;
 // So many of each coin, from the largest on.
 #[derive(Clone, Copy, Debug, PartialEq, Eq)]
 pub struct Counts(pub PerKind);
+
+impl Counts {
+    // The numbers, from that of the largest coin on.
+    pub fn as_slice(&self) -> &[u16]
+        ensures value { result.now ≡ self.now.0 }
+        ensures bound { length result.now ≤ 16 }
+    {
+        self.0.as_slice()
+    }
+}

@@ -19,20 +19,20 @@ pub struct NoRoom;
 
 // Clauses see the numbers.
 impl Model for PerKind {
-    ghost use Rattle.std.specs.Prelude.{◌≡◌, ℕ, ◌-◌, ◌≤◌, List, ◌++◌, length, take, drop, replicate};
-    ghost use Rattle.coins.specs.Places.{filled, length-taken};
+    ghost use Rattle.std.specs.Prelude.{ℕ, ◌-◌, List, ◌++◌, length, take, replicate};
+    ghost use Rattle.coins.specs.Places.{IsFilled, filled, length-taken};
 
     ghost Value = { List ℕ };
 
     ghost view = { λ p. take p.kinds p.numbers };
 
-    ghost invariant = { λ p. (p.kinds ≤ 16) × (length p.numbers ≡ 16) × (drop p.kinds p.numbers ≡ replicate (16 - p.kinds) 0) };
+    ghost invariant = { λ p. IsFilled p.kinds p.numbers };
 
     ghost inverse = { λ ns. record { numbers = ns ++ replicate (16 - length ns) 0; kinds = length ns } };
 
     ghost inverse_ok = { λ p h i. record {
-      numbers = filled p.kinds p.numbers h.0 h.1 h.2 i;
-      kinds = length-taken p.kinds p.numbers h.0 h.1 i;
+      numbers = filled p.kinds p.numbers h i;
+      kinds = length-taken p.kinds p.numbers h i;
     } };
 }
 
@@ -49,6 +49,14 @@ impl TryFrom<&[u16]> for PerKind {
             taken.push(*number)?;
         }
         Ok(taken)
+    }
+}
+
+impl Default for PerKind {
+    ghost is_default = { λ p. p ≡ [] };
+
+    fn default() -> PerKind {
+        PerKind::new()
     }
 }
 

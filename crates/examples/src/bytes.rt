@@ -5,11 +5,14 @@ use std::test::Fail;
 use wire::answer::{Answer, NoAnswer, Reason, Refusal, write_answer};
 use wire::call::{Call, write_call};
 
+// More than any call or answer has.
+const ROOM: usize = 80;
+
 // What `write` writes is these bytes, and nothing behind them changes; into less memory nothing is written.
 fn writes<F: Fn(&mut [u8]) -> Option<usize>>(bytes: &[u8], write: F) -> Result<(), Fail>
     requires { F.IsAlwaysCallable write }
 {
-    let mut out = [0xaau8; 80];
+    let mut out = [0xaau8; ROOM];
     let length = write(&mut out).ok_or("not written")?;
     if length != bytes.len() || !out.starts_with(bytes) {
         return Err(Fail::new("other bytes written"));
@@ -17,21 +20,24 @@ fn writes<F: Fn(&mut [u8]) -> Option<usize>>(bytes: &[u8], write: F) -> Result<(
     if out.iter().skip(length).any(|byte| *byte != 0xaa) {
         return Err(Fail::new("bytes behind changed"));
     }
-    if length > 80 || length == 0 {
-        return Err(Fail::new("no length of bytes"));
+    if length > ROOM || length == 0 {
+        return Err(Fail::new("length out of range"));
     }
-    let mut short = [0xaau8; 80];
+    let mut short = [0xaau8; ROOM];
     if write(&mut short[0..length - 1]).is_some() {
         return Err(Fail::new("written into less memory"));
     }
-    if short != [0xaa; 80] {
+    if short != [0xaa; ROOM] {
         return Err(Fail::new("less memory changed"));
     }
     Ok(())
 }
 
 fn unreadable<'a>(place: u32) -> Result<Call<&'a [u8]>, Refusal> {
-    Err(Refusal::unreadable(place))
+    Err(Refusal {
+        reason: Reason::Unreadable,
+        place,
+    })
 }
 
 #[test]
@@ -107,8 +113,8 @@ fn refused(reason: Reason, place: u32) -> Result<Answer, NoAnswer> {
 }
 
 // The answer of so many of each coin.
-fn answer_coins(numbers: &[u16]) -> Result<Answer, NoAnswer> {
-    let numbers = PerKind::try_from(numbers).map_err(|_| NoAnswer)?;
+fn answer_coins(numbers: &[u16]) -> Result<Answer, Fail> {
+    let numbers = PerKind::try_from(numbers).map_err(|_| Fail::new("too many kinds"))?;
     Ok(Answer::Coins(Counts(numbers)))
 }
 
@@ -130,11 +136,11 @@ fn answers(rt: HostRuntime) -> Result<(), Fail> {
         (&[2, 0x69, 0, 0, 0, 7, 0, 0, 0], Ok(Answer::Two(105, 7))),
         (
             &[3, 3, 0, 0, 0, 0, 3, 0, 0, 0, 0, 0, 0, 0],
-            answer_coins(&[0, 3, 0]),
+            Ok(answer_coins(&[0, 3, 0])?),
         ),
-        (&[3, 0], answer_coins(&[])),
-        (&[3, 1, 0xff, 0xff, 0, 0], answer_coins(&[65_535])),
-        (&sixteen, answer_coins(&[0; 16])),
+        (&[3, 0], Ok(answer_coins(&[])?)),
+        (&[3, 1, 0xff, 0xff, 0, 0], Ok(answer_coins(&[65_535])?)),
+        (&sixteen, Ok(answer_coins(&[0; 16])?)),
         // no answers: no byte, no form, no refusal's number, too short, too long, too many or too much
         (&[], Err(NoAnswer)),
         (&[4, 7, 0, 0, 0], Err(NoAnswer)),
@@ -159,9 +165,7 @@ fn answers(rt: HostRuntime) -> Result<(), Fail> {
 #[test]
 fn counts(rt: HostRuntime) -> Result<(), Fail> {
     assert!(rt; read_counts(&[4, 0, 0, 0, 0, 0, 1, 0]).is_none());
-    let Some(counts) = read_counts(&[4, 0, 0, 0, 0xff, 0xff, 0, 0]) else {
-        return Err(Fail::new("no counts"));
-    };
-    assert_eq!(rt; counts.0.as_slice(), [4, 65_535].as_slice());
+    let counts = read_counts(&[4, 0, 0, 0, 0xff, 0xff, 0, 0]).ok_or("no counts")?;
+    assert_eq!(rt; counts.as_slice(), [4, 65_535].as_slice());
     Ok(())
 }

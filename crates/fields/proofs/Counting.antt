@@ -1,8 +1,9 @@
 -- Numbers taken as counts, one at a time. Assumes nothing.
-use Rattle.std.proofs.Common.{◌≡◌, ℕ, zero, suc, ◌<◌, ◌≤◌, true, false, ◌&&◌, ◌⊎◌, List, [], ◌∷◌, ◌++◌, length, get_or, take, replicate, refl, ap, ◌∙◌, inl, inr, arith}
-use Rattle.std.proofs.lemmas.List.{length-append}
+use Rattle.std.proofs.Common.{◌≡◌, ℕ, zero, suc, ◌<◌, ◌≤◌, true, false, ◌&&◌, ◌⊎◌, List, [], ◌∷◌, ◌++◌, length, get_or, take, replicate, refl, ap, ◌∙◌, inl, inr, append_assoc, arith}
+use Rattle.std.proofs.lemmas.List.{length-append, append-nil, length_push}
 use Rattle.coins.specs.Calls.{all_to}
 use Rattle.fields.specs.Counted.{are_counts}
+use Rattle.fields.proofs.Numbers.{numbers_none}
 
 -- a limit of a list that is put together of two
 pub all_to-append : (m : ℕ) (xs ys : List ℕ) → all_to m (xs ++ ys) ≡ (all_to m xs && all_to m ys)
@@ -44,3 +45,6 @@ not_counts ns held rest n e w =
 pub count_more : (held : List ℕ) (n : ℕ) → all_to 65535 held ≡ true → n ≤ 65535 → all_to 65535 (held ++ n ∷ []) ≡ true
 unfolding all_to
 count_more held n t h = grind (arith, all_to-append 65535 held (n ∷ []))
+
+-- what the loop through the numbers needs
+pub ruleset counted = (not_counts, count_more, numbers_none, append_assoc, append-nil, length_push)

@@ -1,6 +1,6 @@
 -- Fields written one after another, behind some bytes, over the front of memory. Assumes nothing.
 use Rattle.std.proofs.Common.{◌≡◌, ℕ, zero, suc, ◌+◌, ◌*◌, ◌<◌, List, [], ◌∷◌, ◌++◌, length, get_or, take, drop, sym, refl, ap, ◌∙◌, append_assoc, arith}
-use Rattle.std.proofs.lemmas.List.{take_at, drop_at, take_more, take_all, length-append, length-take-le}
+use Rattle.std.proofs.lemmas.List.{take_at, drop_at, take_more, take_all, length-append, length-take-le, length-map, get_or-map}
 use Rattle.std.proofs.lemmas.Slice.{drop-append-drop}
 use Rattle.fields.specs.Bytes.{field, fields, over_front}
 
@@ -60,3 +60,6 @@ all_fields head copied ns before out k i e f h is =
     let t = take_all i ns (omega arith) in
     let g = append_assoc head (fields ns) (drop (length (head ++ fields ns)) before) in
     (omega (arith, n), cc)
+
+-- what the loop that writes the fields needs
+pub ruleset written = (none_yet, field_more, length-fields, length-append, length-map, get_or-map)

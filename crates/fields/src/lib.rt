@@ -8,9 +8,9 @@ ghost use Rattle.fields.specs.Back.{FieldsBack};
 
 use coins::{Counts, PerKind};
 
-// What a field can hold.
+// What a field can hold. No `Into<u32>`, whose ghost member is a relation: clauses say which number is written.
 pub trait Number: Copy {
-    // It as a number.
+    // The number that it is.
     ghost number: { Self → ℕ };
 
     fn to_u32(self) -> u32
@@ -56,19 +56,16 @@ pub fn lone_number(bytes: &[u8]) -> Option<u32>
 
 // The counts that bytes hold, field by field; none where there are more fields than a set has kinds, or a number is no count.
 // No `TryFrom`: the type is of another crate, and one around it would be no plainer.
-#[tactic(auto, using(crate::proofs::Counting::not_counts), unfolding(coins::specs::Calls::all_to))]
+#[tactic(auto, using(crate::proofs::Counting::counted), unfolding(coins::specs::Calls::all_to))]
 pub fn read_counts(bytes: &[u8]) -> Option<Counts>
     ensures { MatchOption result (are_counts (numbers bytes.now) ≡ false) (λ c. (are_counts (numbers bytes.now) ≡ true) × (c.0 ≡ numbers bytes.now)) }
 {
     let mut counts = PerKind::new();
     let mut rest = bytes;
+    // By `split_number`, whose clause says which number each field is.
     while let Some((number, behind)) = split_number(rest) {
-        let Ok(count) = u16::try_from(number) else {
-            return None;
-        };
-        let Ok(()) = counts.push(count) else {
-            return None;
-        };
+        let count = u16::try_from(number).ok()?;
+        counts.push(count).ok()?;
         rest = behind;
     }
     Some(Counts(counts))
@@ -83,7 +80,7 @@ fn put_number(out: &mut [u8], at: usize, number: u32)
 }
 
 // Writes some bytes and others behind them over the front of `out`, and says how many bytes that is.
-// Where `out` is too short, nothing is written; a writer with a place of its own could not promise that.
+// Where `out` is too short, nothing is written; a writer with a place of its own would have written the head by then.
 pub fn write_bytes(head: &[u8], tail: &[u8], out: &mut [u8]) -> Option<usize>
     ensures { Written (head.now ++ tail.now) out.old out.new result }
 {
@@ -100,6 +97,7 @@ pub fn write_bytes(head: &[u8], tail: &[u8], out: &mut [u8]) -> Option<usize>
 
 // Writes some bytes and the fields of numbers behind them over the front of `out`, and says how many bytes that is.
 // Where `out` is too short, nothing is written.
+#[tactic(auto, using(crate::proofs::Writing::written))]
 pub fn write_numbers<N: Number>(head: &[u8], numbers: &[N], out: &mut [u8]) -> Option<usize>
     ensures { Written (head.now ++ fields (map N.number numbers.now)) out.old out.new result }
 {
@@ -109,13 +107,15 @@ pub fn write_numbers<N: Number>(head: &[u8], numbers: &[N], out: &mut [u8]) -> O
         return None;
     }
     out[0..start].copy_from_slice(head);
+    // By place: of what `chunks_exact_mut` lent, a proof knows the length afterwards, and not the bytes.
     for (i, number) in numbers.iter().enumerate() {
         put_number(out, start + 4 * i, number.to_u32());
     }
     Some(start + 4 * numbers.len())
 }
 
-// What is read is what was written.
+// What is read is what was written. The function does nothing: the check asks for a proof only where a contract names the
+// statement.
 pub fn laws_stand()
     ensures fields_back { FieldsBack }
 {}

@@ -80,8 +80,7 @@ fn passed_over(line: &str) -> bool {
 
 fn run(rt: &HostRuntime) -> anyhow::Result<()> {
     let mut args = env::args(rt)?;
-    let _ = args.next();
-    match args.next() {
+    match args.nth(1) {
         None => answer_lines(rt),
         Some(word) if word.as_str() == "--help" => Ok(println!(rt; "{HELP}")?),
         Some(word) => Err(anyhow!("no argument but --help is known, not '{word}'")),

@@ -1,9 +1,14 @@
 // Opening a till: the checks in their order.
 ghost use Rattle.std.specs.Prelude.{◌≡◌};
 ghost use Rattle.till.specs.Opening.{Opens};
-ghost use Rattle.till.specs.declared.opening.OpenError.TheVariants.{NoCoinSet};
+ghost use Rattle.till.specs.declared.opening.OpenError.TheVariants as error;
 
 use coins::{CoinSet, NotCoinSet};
+
+// No till holds more of a coin, or has a larger amount.
+const LARGEST_EACH: u32 = 1_000;
+
+const LARGEST_MOST: u32 = 1_000_000;
 
 // The program's memory serves at most so many kinds and such amounts.
 const KINDS_SERVED: usize = 8;
@@ -26,17 +31,17 @@ pub struct Till {
 // Why no till is opened, by the place that is told.
 #[derive(Clone, Copy, Debug, PartialEq, Eq)]
 pub enum OpenError {
-    NoCoinSet = 0,
+    NotCoinSet = 0,
     LimitsOutOfRange = 1,
     // more than the program's memory serves
     NotServed = 2,
 }
 
 impl From<NotCoinSet> for OpenError {
-    ghost from_gives = { λ _ e. e ≡ NoCoinSet };
+    ghost from_gives = { λ _ e. e ≡ error.NotCoinSet };
 
     fn from(_error: NotCoinSet) -> OpenError {
-        OpenError::NoCoinSet
+        OpenError::NotCoinSet
     }
 }
 
@@ -46,7 +51,7 @@ impl Till {
         ensures { Opens limits values.now result }
     {
         let set = CoinSet::try_from(values)?;
-        if limits.each > 1_000 || limits.most > 1_000_000 {
+        if limits.each > LARGEST_EACH || limits.most > LARGEST_MOST {
             return Err(OpenError::LimitsOutOfRange);
         }
         if set.kinds() > KINDS_SERVED || limits.most > MOST_SERVED {

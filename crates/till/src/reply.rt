@@ -6,6 +6,7 @@ use crate::opening::OpenError;
 use std::fmt;
 use wire::answer::{Reason, Refusal};
 
+// One answer so far; calls that are done will have theirs.
 #[derive(Clone, Copy, Debug, PartialEq, Eq)]
 pub enum Reply {
     Opened,

@@ -21,7 +21,7 @@ fn read_number(word: &str) -> Option<u32> {
     word.parse().ok()
 }
 
-// The request that a line is, if it is one. No `FromStr`, here or in the two steps below: it could not be given memory.
+// The request that a line is, if it is one. No `FromStr`, which could not be given memory.
 pub fn read_request(heap: Global, line: &str) -> Result<Option<Request>, AllocError> {
     let mut words = line.split_whitespace();
     let Some(name) = words.next() else {
@@ -38,10 +38,10 @@ pub fn read_request(heap: Global, line: &str) -> Result<Option<Request>, AllocEr
         return read_open(heap, numbers.as_slice());
     }
     let call = read_call(heap, name, numbers.as_slice())?;
-    Ok(call.map(|call| Request::Call(call)))
+    Ok(call.map(Request::Call))
 }
 
-// The opening with these numbers.
+// The opening with these numbers. No `TryFrom`, which could not be given memory.
 #[tactic(auto, using(std::proofs::lemmas::List::take_rest))]
 fn read_open(heap: Global, numbers: &[u32]) -> Result<Option<Request>, AllocError>
     ensures { IfOk result (λ o. IfSome o (λ q. SpellsOpen numbers.now q)) }
@@ -57,7 +57,7 @@ fn read_open(heap: Global, numbers: &[u32]) -> Result<Option<Request>, AllocErro
     Ok(Some(Request::Open { limits, values }))
 }
 
-// The call of this name with these numbers.
+// The call of this name with these numbers. No `TryFrom`, which could not be given memory.
 #[tactic(auto, using(std::proofs::lemmas::List::take_rest))]
 fn read_call(
     heap: Global,

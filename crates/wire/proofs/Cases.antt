@@ -6,7 +6,7 @@ use Rattle.fields.specs.Bytes.{numbers}
 use Rattle.wire.specs.Calls.{longest, may_have, call_of, read}
 
 -- no kind
-pub read_none : (bs rest : List ℕ) (k : ℕ) → bs ≡ k ∷ rest → 5 < k → read bs ≡ garbled 0
+read_none : (bs rest : List ℕ) (k : ℕ) → bs ≡ k ∷ rest → 5 < k → read bs ≡ garbled 0
 unfolding read
 read_none bs rest k e h = ap read e ∙ grind arith
 
@@ -16,7 +16,7 @@ unfolding read
 read_call bs rest k e h t = ap read e ∙ grind arith
 
 -- or not as many
-pub read_cut : (bs rest : List ℕ) (k : ℕ) → bs ≡ k ∷ rest → k ≤ 5 → may_have k (suc (length rest)) ≡ false → read bs ≡ garbled (min (length bs) (longest k))
+read_cut : (bs rest : List ℕ) (k : ℕ) → bs ≡ k ∷ rest → k ≤ 5 → may_have k (suc (length rest)) ≡ false → read bs ≡ garbled (min (length bs) (longest k))
 unfolding read
 read_cut bs rest k e h t = ap read e ∙ grind (arith, ap length e)
 

@@ -21,18 +21,14 @@ kind_number kind.Could = 3
 kind_number kind.Holds = 4
 kind_number kind.Spoils = 5
 
--- each call, where `coins` tells of the coins put in so many of each
-abbrev pub call_meant_by : {P : Type 0} → (P → List ℕ) → Call P → till.Call
-call_meant_by coins (Fill i k) = till.fills i k
-call_meant_by coins (Pay x) = till.pays x
-call_meant_by coins (Sell p cs) = till.sells p (coins cs)
-call_meant_by coins (Could x) = till.could x
-call_meant_by coins Holds = till.holds
-call_meant_by coins (Spoils n) = till.spoils n
-
--- each call that is read from bytes; the coins put in are the whole fields of their part of the bytes
+-- each call; the coins put in are the whole fields of their part of the bytes
 abbrev pub call_meant : Call (Bor (List ℕ)) → till.Call
-call_meant call = call_meant_by (λ bytes. numbers bytes.now) call
+call_meant (Fill i k) = till.fills i k
+call_meant (Pay x) = till.pays x
+call_meant (Sell p cs) = till.sells p (numbers cs.now)
+call_meant (Could x) = till.could x
+call_meant Holds = till.holds
+call_meant (Spoils n) = till.spoils n
 
 -- the number of each reason of a refusal
 abbrev pub reason_number : Reason → ℕ

@@ -39,6 +39,16 @@ pub struct Refusal<P = u32> {
     pub place: P,
 }
 
+// The forms of answers, a byte each. No enum, which would be read in one match and written in another, and no plainer.
+const REFUSED: u8 = 0;
+
+const NUMBER: u8 = 1;
+
+const TWO: u8 = 2;
+
+const COINS: u8 = 3;
+
+// Clauses say what an answer stands for by `answer_meant`, since an enum can have no model yet.
 // An answer: a refusal, one number or two, or so many of each coin.
 #[derive(Clone, Copy, Debug, PartialEq, Eq)]
 pub enum Answer {
@@ -115,38 +125,36 @@ pub fn write_answer(answer: Answer, out: &mut [u8]) -> Option<usize>
 {
     match answer {
         Answer::Refused(refusal) => {
-            write_numbers(&[0], &[refusal.reason as u32, refusal.place], out)
+            write_numbers(&[REFUSED], &[refusal.reason as u32, refusal.place], out)
         }
-        Answer::Number(number) => write_numbers(&[1], &[number], out),
-        Answer::Two(first, second) => write_numbers(&[2], &[first, second], out),
+        Answer::Number(number) => write_numbers(&[NUMBER], &[number], out),
+        Answer::Two(first, second) => write_numbers(&[TWO], &[first, second], out),
         Answer::Coins(counts) => {
-            let counts = counts.0.as_slice();
-            write_numbers(&[3, counts.len() as u8], counts, out)
+            let counts = counts.as_slice();
+            // `as`, since there are at most 16.
+            write_numbers(&[COINS, counts.len() as u8], counts, out)
         }
     }
 }
 
-// The answer of a form with these bytes behind it. The form stays a byte: it stands once here and once in
-// `write_answer`, and an enum of forms would be 25 lines more and no plainer.
+// The answer of a form with these bytes behind it: a step of the reading above, and no conversion of its own.
 fn read_form(form: u8, bytes: &[u8]) -> Option<Answer>
     ensures { option_map answer_meant result ≡ answer_of form bytes.now }
 {
     match form {
-        0 => {
+        REFUSED => {
             let (number, rest) = split_number(bytes)?;
             let place = lone_number(rest)?;
-            let Ok(reason) = Reason::try_from(number) else {
-                return None;
-            };
+            let reason = Reason::try_from(number).ok()?;
             Some(Answer::Refused(Refusal { reason, place }))
         }
-        1 => Some(Answer::Number(lone_number(bytes)?)),
-        2 => {
+        NUMBER => Some(Answer::Number(lone_number(bytes)?)),
+        TWO => {
             let (first, rest) = split_number(bytes)?;
             let second = lone_number(rest)?;
             Some(Answer::Two(first, second))
         }
-        3 => read_coins(bytes),
+        COINS => read_coins(bytes),
         _ => None,
     }
 }

@@ -10,7 +10,8 @@ use crate::answer::Refusal;
 use coins::MOST_KINDS;
 use fields::{lone_number, split_number, write_bytes, write_numbers};
 
-// The kinds of calls, by their numbers. Clauses name them by `kind_number`, since an enum can have no model.
+// The kinds of calls, by their numbers. Clauses name them by `kind_number`, since an enum can have
+// no model yet, and a struct around it would be no plainer.
 #[derive(Clone, Copy, Debug, PartialEq, Eq)]
 pub enum Kind {
     Fill = 0,
@@ -25,7 +26,8 @@ pub enum Kind {
 #[derive(Clone, Copy, Debug, PartialEq, Eq)]
 pub struct UnknownKind;
 
-// A call, with the coins put in at a sale in the form that they were read in.
+// A call, with the coins put in at a sale in the form that they were read in. Clauses say what it stands for by
+// `call_meant`, since an enum can have no model yet.
 #[derive(Clone, Copy, Debug, PartialEq, Eq, Drop)]
 pub enum Call<P> {
     Fill { coin: u32, count: u32 },
@@ -68,7 +70,8 @@ impl Kind {
     }
 }
 
-// Coins put in are whole fields, no more than a set has kinds.
+// Coins put in are whole fields, no more than a set has kinds. A test and no type, since any bytes may be handed in to be
+// written, and are refused by it.
 fn whole_fields(put_in: &[u8]) -> bool
     ensures { result ≡ whole_fields put_in.now }
 {
@@ -106,7 +109,7 @@ fn read_fields<'a>(kind: Kind, bytes: &'a [u8]) -> Option<Call<&'a [u8]>>
 }
 
 // The call that bytes are, or the refusal with the place where they cease to be one.
-// The coins put in are a part of the bytes, a field for each kind.
+// The coins put in are a part of the bytes, a field for each kind. Each step hands on its value or returns the refusal.
 impl<'a> TryFrom<&'a [u8]> for Call<&'a [u8]> {
     type Error = Refusal;
 
@@ -121,6 +124,7 @@ impl<'a> TryFrom<&'a [u8]> for Call<&'a [u8]> {
             return Err(Refusal::unreadable(0));
         };
         let Some(call) = read_fields(kind, rest) else {
+            // `as`, since no kind has more than 69 bytes.
             let place = bytes.len().min(kind.longest()) as u32;
             return Err(Refusal::unreadable(place));
         };
@@ -145,6 +149,7 @@ pub fn write_call(call: Call<&[u8]>, out: &mut [u8]) -> Option<usize>
 }
 
 // The same of a sale.
+#[tactic(auto, using(crate::proofs::Writing::writes_sale, fields::proofs::Typed::all_bytes))]
 fn write_sale(price: u32, put_in: &[u8], out: &mut [u8]) -> Option<usize>
     ensures { WritesIf (whole_fields put_in.now) (call_bytes (sells price (numbers put_in.now))) out.old out.new result }
 {

@@ -6,7 +6,8 @@ ghost use Rattle.wire.specs.Back.{CallsBack, CallsDiffer, AnswersBack, FrontsRef
 pub mod answer;
 pub mod call;
 
-// The theorems of calls and answers as bytes.
+// The theorems of calls and answers as bytes. The function does nothing: the check asks for a proof only where a contract
+// names the statement.
 pub fn laws_stand()
     // What was written as a call is read, and what is read as one was written.
     ensures calls_back { CallsBack }
