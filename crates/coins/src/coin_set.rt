@@ -39,6 +39,7 @@ impl TryFrom<&[u32]> for CoinSet {
     fn try_from(values: &[u32]) -> Result<CoinSet, NotCoinSet> {
         let mut held = PerKind::new();
         let mut above = LARGEST_VALUE + 1;
+        // In one pass, and not by `is_sorted_by` before it: each value is held as it is tested.
         for value in values {
             if *value >= above {
                 return Err(NotCoinSet);

@@ -20,7 +20,7 @@ pub const LARGEST_VALUE: u32 = 65_535;
 pub struct Counts(pub PerKind);
 
 impl Counts {
-    // The numbers, from that of the largest coin on.
+    // The numbers, from that of the largest coin on; handed on, so that callers need not name the field.
     pub fn as_slice(&self) -> &[u16]
         ensures value { result.now ≡ self.now.0 }
         ensures bound { length result.now ≤ 16 }

@@ -7,7 +7,7 @@ use std::marker::Model;
 // A number for each kind of coin, from that of the largest on, for at most `MOST_KINDS` kinds.
 // The places that are left hold 0, so the same numbers are the same value.
 // An array with its length beside it, since nothing here allocates, and the toolchain's `ArrayVec` can't be copied.
-#[derive(Clone, Copy, Debug, PartialEq, Eq)]
+#[derive(Clone, Copy, Debug, Default, PartialEq, Eq)]
 pub struct PerKind {
     numbers: [u16; MOST_KINDS],
     kinds: usize,
@@ -49,14 +49,6 @@ impl TryFrom<&[u16]> for PerKind {
             taken.push(*number)?;
         }
         Ok(taken)
-    }
-}
-
-impl Default for PerKind {
-    ghost is_default = { λ p. p ≡ [] };
-
-    fn default() -> PerKind {
-        PerKind::new()
     }
 }
 

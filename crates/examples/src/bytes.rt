@@ -33,6 +33,7 @@ fn writes<F: Fn(&mut [u8]) -> Option<usize>>(bytes: &[u8], write: F) -> Result<(
     Ok(())
 }
 
+// Spelled out, so that no expected value comes from what reads.
 fn unreadable<'a>(place: u32) -> Result<Call<&'a [u8]>, Refusal> {
     Err(Refusal {
         reason: Reason::Unreadable,

@@ -62,7 +62,7 @@ pub fn read_counts(bytes: &[u8]) -> Option<Counts>
 {
     let mut counts = PerKind::new();
     let mut rest = bytes;
-    // By `split_number`, whose clause says which number each field is.
+    // No `chunks_exact(4)`, whose clauses know no numbers: by `split_number`, which says which each field is, it is plainer.
     while let Some((number, behind)) = split_number(rest) {
         let count = u16::try_from(number).ok()?;
         counts.push(count).ok()?;
@@ -107,7 +107,7 @@ pub fn write_numbers<N: Number>(head: &[u8], numbers: &[N], out: &mut [u8]) -> O
         return None;
     }
     out[0..start].copy_from_slice(head);
-    // By place: of what `chunks_exact_mut` lent, a proof knows the length afterwards, and not the bytes.
+    // By place: `chunks_exact_mut` was tried, and the promise did not close, since a proof does not know what it wrote.
     for (i, number) in numbers.iter().enumerate() {
         put_number(out, start + 4 * i, number.to_u32());
     }

@@ -7,6 +7,8 @@ use Rattle.wire.specs.declared.call.Kind.{Kind}
 use Rattle.wire.specs.declared.call.Kind.TheVariants as kind
 use Rattle.wire.specs.declared.call.Call.{Call}
 use Rattle.wire.specs.declared.call.Call.TheVariants.{Fill, Pay, Sell, Could, Holds, Spoils}
+use Rattle.wire.specs.declared.answer.Form.{Form}
+use Rattle.wire.specs.declared.answer.Form.TheVariants as form
 use Rattle.wire.specs.declared.answer.Reason.{Reason}
 use Rattle.wire.specs.declared.answer.Reason.TheVariants.{Unreadable, OutOfRange, NoTill, NoSuchCoin, TooLittle, NoWay, TooMany}
 use Rattle.wire.specs.declared.answer.Answer.{Answer}
@@ -29,6 +31,13 @@ call_meant (Sell p cs) = till.sells p (numbers cs.now)
 call_meant (Could x) = till.could x
 call_meant Holds = till.holds
 call_meant (Spoils n) = till.spoils n
+
+-- the number of each form of an answer
+abbrev pub form_number : Form → ℕ
+form_number form.Refused = 0
+form_number form.Number = 1
+form_number form.Two = 2
+form_number form.Coins = 3
 
 -- the number of each reason of a refusal
 abbrev pub reason_number : Reason → ℕ

@@ -1,10 +1,10 @@
 // Answers of the till, written as bytes and read.
-ghost use Rattle.std.specs.Prelude.{◌≡◌, false, MatchResult};
+ghost use Rattle.std.specs.Prelude.{◌≡◌, ◌<◌, false, MatchResult};
 ghost use Rattle.std.specs.Option.{option_map};
 ghost use Rattle.std.specs.Result.{result_ok};
 ghost use Rattle.fields.specs.Bytes.{Written};
 ghost use Rattle.wire.specs.Answers.{answer_bytes, is_reason, answer_of, read_answer};
-ghost use Rattle.wire.specs.Meant.{reason_number, refusal_text, answer_meant};
+ghost use Rattle.wire.specs.Meant.{form_number, reason_number, refusal_text, answer_meant};
 
 use coins::Counts;
 use fields::{lone_number, read_counts, split_number, write_numbers};
@@ -39,17 +39,17 @@ pub struct Refusal<P = u32> {
     pub place: P,
 }
 
-// The forms of answers, a byte each. No enum, which would be read in one match and written in another, and no plainer.
-const REFUSED: u8 = 0;
+// The forms of answers, by their numbers.
+#[derive(Clone, Copy, Debug, PartialEq, Eq)]
+enum Form {
+    Refused = 0,
+    Number = 1,
+    Two = 2,
+    Coins = 3,
+}
 
-const NUMBER: u8 = 1;
-
-const TWO: u8 = 2;
-
-const COINS: u8 = 3;
-
-// Clauses say what an answer stands for by `answer_meant`, since an enum can have no model yet.
-// An answer: a refusal, one number or two, or so many of each coin.
+// An answer: a refusal, one number or two, or so many of each coin. Clauses say what it stands for by `answer_meant`, since
+// an enum can have no model yet, and a struct around it would be no plainer.
 #[derive(Clone, Copy, Debug, PartialEq, Eq)]
 pub enum Answer {
     Refused(Refusal),
@@ -81,6 +81,7 @@ impl TryFrom<u32> for Reason {
     }
 }
 
+// For calls alone: a place of another type has one maker, and a parameter here would be no plainer.
 impl Refusal {
     // A call that can't be read from this place on.
     pub fn unreadable(place: u32) -> Refusal
@@ -103,6 +104,22 @@ impl<P: fmt::Display> fmt::Display for Refusal<P> {
     }
 }
 
+impl TryFrom<u8> for Form {
+    type Error = NoAnswer;
+
+    ghost try_from_gives = { λ number r. MatchResult r (λ form. form_number form ≡ number) (λ _. 3 < number) };
+
+    fn try_from(number: u8) -> Result<Form, NoAnswer> {
+        match number {
+            0 => Ok(Form::Refused),
+            1 => Ok(Form::Number),
+            2 => Ok(Form::Two),
+            3 => Ok(Form::Coins),
+            _ => Err(NoAnswer),
+        }
+    }
+}
+
 // The answer that bytes are, if they are one.
 impl TryFrom<&[u8]> for Answer {
     type Error = NoAnswer;
@@ -114,7 +131,8 @@ impl TryFrom<&[u8]> for Answer {
         let [form, rest @ ..] = bytes else {
             return Err(NoAnswer);
         };
-        read_form(*form, rest).ok_or(NoAnswer)
+        let form = Form::try_from(*form)?;
+        read_form(form, rest).ok_or(NoAnswer)
     }
 }
 
@@ -125,37 +143,40 @@ pub fn write_answer(answer: Answer, out: &mut [u8]) -> Option<usize>
 {
     match answer {
         Answer::Refused(refusal) => {
-            write_numbers(&[REFUSED], &[refusal.reason as u32, refusal.place], out)
+            write_numbers(
+                &[Form::Refused as u8],
+                &[refusal.reason as u32, refusal.place],
+                out,
+            )
         }
-        Answer::Number(number) => write_numbers(&[NUMBER], &[number], out),
-        Answer::Two(first, second) => write_numbers(&[TWO], &[first, second], out),
+        Answer::Number(number) => write_numbers(&[Form::Number as u8], &[number], out),
+        Answer::Two(first, second) => write_numbers(&[Form::Two as u8], &[first, second], out),
         Answer::Coins(counts) => {
             let counts = counts.as_slice();
             // `as`, since there are at most 16.
-            write_numbers(&[COINS, counts.len() as u8], counts, out)
+            write_numbers(&[Form::Coins as u8, counts.len() as u8], counts, out)
         }
     }
 }
 
 // The answer of a form with these bytes behind it: a step of the reading above, and no conversion of its own.
-fn read_form(form: u8, bytes: &[u8]) -> Option<Answer>
-    ensures { option_map answer_meant result ≡ answer_of form bytes.now }
+fn read_form(form: Form, bytes: &[u8]) -> Option<Answer>
+    ensures { option_map answer_meant result ≡ answer_of (form_number form) bytes.now }
 {
     match form {
-        REFUSED => {
+        Form::Refused => {
             let (number, rest) = split_number(bytes)?;
             let place = lone_number(rest)?;
             let reason = Reason::try_from(number).ok()?;
             Some(Answer::Refused(Refusal { reason, place }))
         }
-        NUMBER => Some(Answer::Number(lone_number(bytes)?)),
-        TWO => {
+        Form::Number => Some(Answer::Number(lone_number(bytes)?)),
+        Form::Two => {
             let (first, rest) = split_number(bytes)?;
             let second = lone_number(rest)?;
             Some(Answer::Two(first, second))
         }
-        COINS => read_coins(bytes),
-        _ => None,
+        Form::Coins => read_coins(bytes),
     }
 }
 

@@ -27,7 +27,7 @@ pub enum Kind {
 pub struct UnknownKind;
 
 // A call, with the coins put in at a sale in the form that they were read in. Clauses say what it stands for by
-// `call_meant`, since an enum can have no model yet.
+// `call_meant`, as they name a kind by its number.
 #[derive(Clone, Copy, Debug, PartialEq, Eq, Drop)]
 pub enum Call<P> {
     Fill { coin: u32, count: u32 },
@@ -70,8 +70,8 @@ impl Kind {
     }
 }
 
-// Coins put in are whole fields, no more than a set has kinds. A test and no type, since any bytes may be handed in to be
-// written, and are refused by it.
+// Coins put in are whole fields, no more than a set has kinds. A test and no type, which would be no plainer, since any
+// bytes may be handed in to be written, and are refused by it.
 fn whole_fields(put_in: &[u8]) -> bool
     ensures { result ≡ whole_fields put_in.now }
 {

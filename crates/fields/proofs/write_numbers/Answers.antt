@@ -1,4 +1,4 @@
--- `write_numbers`: all fields are behind the head.
+-- `write_numbers`: all fields are behind the head. The check asks for it when it is left out.
 use Rattle.std.proofs.Common.{◌+◌, ◌*◌, map, length, ap, ◌∙◌, sym, arith}
 use Rattle.std.proofs.lemmas.List.{length-map}
 use Rattle.fields.proofs.Writing.{all_fields}

@@ -1,4 +1,4 @@
--- `PerKind::push`: one place fewer is left.
+-- `PerKind::push`: one place fewer is left. The check asks for it when it is left out.
 use Rattle.std.proofs.Common.{arith}
 use Rattle.coins.proofs.Held.{filled_more}
 use Rattle.coins.proofs.per_kind.PerKind.push.Goals as goal
