@@ -1,39 +1,28 @@
 // A set of coins: made from numbers, and read.
-ghost use Rattle.std.specs.Prelude.{◌≡◌, ◌≤◌, length, MatchResult};
-ghost use Rattle.coins.specs.Values.{IsCoinSet};
+ghost use Rattle.std.specs.Prelude.{◌≡◌, ◌≤◌, true, length, MatchResult};
+ghost use Rattle.coins.specs.Coins.{falling};
+ghost use Rattle.coins.specs.Places.{numbers_of};
 
 use crate::{LARGEST_VALUE, PerKind};
-use std::marker::Model;
 
-// The values of a set of coins, from the largest on.
+// The values of a set of coins, from the largest on. A ghost field and no model, as in `PerKind`.
 #[derive(Clone, Copy, Debug, PartialEq, Eq)]
 pub struct CoinSet {
     values: PerKind,
+    ghost falls: { falling (numbers_of values) ≡ true },
 }
 
 // The numbers are no set of coins.
 #[derive(Clone, Copy, Debug, PartialEq, Eq)]
 pub struct NotCoinSet;
 
-// Clauses see the values.
-impl Model for CoinSet {
-    ghost use Rattle.std.specs.Prelude.{ℕ, List};
-    ghost use Rattle.coins.specs.Values.{IsCoinSet};
-
-    ghost Value = { List ℕ };
-
-    ghost view = { λ s. s.values };
-
-    ghost invariant = { λ s. IsCoinSet s.values };
-
-    ghost inverse = { λ vs. record { values = vs } };
-}
-
 // The set of these values, just where they are one.
 impl TryFrom<&[u32]> for CoinSet {
+    ghost use Rattle.coins.specs.Values.{values_of, IsCoinSet};
+
     type Error = NotCoinSet;
 
-    ghost try_from_gives = { λ values r. MatchResult r (λ s. IsCoinSet values.now × (s ≡ values.now)) (λ _. IsCoinSet values.now → ⊥) };
+    ghost try_from_gives = { λ values r. MatchResult r (λ s. IsCoinSet values.now × (values_of s ≡ values.now)) (λ _. IsCoinSet values.now → ⊥) };
 
     #[tactic(auto, using(crate::proofs::Falls::falls, crate::proofs::Held::held_more))]
     fn try_from(values: &[u32]) -> Result<CoinSet, NotCoinSet> {
@@ -56,9 +45,11 @@ impl TryFrom<&[u32]> for CoinSet {
 }
 
 impl CoinSet {
+    ghost use Rattle.coins.specs.Values.{values_of, IsCoinSet};
+
     // How many kinds of coins there are.
     pub fn kinds(&self) -> usize
-        ensures value { result ≡ length self.now }
+        ensures value { result ≡ length (values_of self.now) }
         ensures bound { result ≤ 16 }
     {
         self.values().len()
@@ -66,7 +57,7 @@ impl CoinSet {
 
     // The values, from the largest on.
     pub fn values(&self) -> &[u16]
-        ensures value { result.now ≡ self.now }
+        ensures value { result.now ≡ values_of self.now }
         ensures set { IsCoinSet result.now }
     {
         self.values.as_slice()
@@ -113,5 +104,26 @@ mod tests {
         for values in lists {
             assert!(rt; CoinSet::try_from(values).is_err());
         }
+    }
+
+    // A caller's own value that holds a set.
+    #[derive(Clone, Copy)]
+    struct Shop {
+        set: CoinSet,
+    }
+
+    fn kinds_of(shop: Shop) -> usize {
+        shop.set.kinds()
+    }
+
+    // What holds a set is copied where it is used twice.
+    #[test]
+    fn is_copied_with_what_holds_it(rt: HostRuntime) -> Result<(), Fail> {
+        let values: [u32; 3] = [25, 10, 1];
+        let set = CoinSet::try_from(values.as_slice()).map_err(|_| Fail::new("not taken"))?;
+        let shop = Shop { set };
+        assert_eq!(rt; kinds_of(shop), 3);
+        assert_eq!(rt; kinds_of(shop), 3);
+        Ok(())
     }
 }

@@ -170,3 +170,17 @@ fn counts(rt: HostRuntime) -> Result<(), Fail> {
     assert_eq!(rt; counts.as_slice(), [4, 65_535].as_slice());
     Ok(())
 }
+
+// Counts and answers are copied where they are used twice.
+#[test]
+fn copies(rt: HostRuntime) -> Result<(), Fail> {
+    let counts = read_counts(&[4, 0, 0, 0]).ok_or("no counts")?;
+    let answers = (Answer::Coins(counts), Answer::Coins(counts));
+    assert_eq!(rt; answers.0, answers.1);
+    let mut out = [0u8; ROOM];
+    for _ in 0..2 {
+        assert_eq!(rt; write_answer(answers.0, &mut out), Some(6));
+    }
+    assert!(rt; out.starts_with(&[3, 1, 4, 0, 0, 0]));
+    Ok(())
+}

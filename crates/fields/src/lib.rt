@@ -5,6 +5,7 @@ ghost use Rattle.std.specs.Prelude.{◌≡◌, ◌+◌, ◌*◌, ◌<◌, ◌≤
 ghost use Rattle.fields.specs.Bytes.{field, fields, numbers, Written};
 ghost use Rattle.fields.specs.Counted.{are_counts};
 ghost use Rattle.fields.specs.Back.{FieldsBack};
+ghost use Rattle.coins.specs.Values.{counts_of};
 
 use coins::{Counts, PerKind};
 
@@ -58,7 +59,7 @@ pub fn lone_number(bytes: &[u8]) -> Option<u32>
 // No `TryFrom`: the type is of another crate, and one around it would be no plainer.
 #[tactic(auto, using(crate::proofs::Counting::counted), unfolding(coins::specs::Calls::all_to))]
 pub fn read_counts(bytes: &[u8]) -> Option<Counts>
-    ensures { MatchOption result (are_counts (numbers bytes.now) ≡ false) (λ c. (are_counts (numbers bytes.now) ≡ true) × (c.0 ≡ numbers bytes.now)) }
+    ensures { MatchOption result (are_counts (numbers bytes.now) ≡ false) (λ c. (are_counts (numbers bytes.now) ≡ true) × (counts_of c ≡ numbers bytes.now)) }
 {
     let mut counts = PerKind::new();
     let mut rest = bytes;

@@ -1,6 +1,7 @@
 -- What opening a till answers. Assumes nothing: these are definitions.
 use Rattle.std.specs.Prelude.{◌≡◌, ℕ, ◌&&◌, List, length, Some, None, Option, Result, MatchResult, nat_le}
 use Rattle.coins.specs.Coins.{pick, falling}
+use Rattle.coins.specs.Values.{values_of}
 use Rattle.till.specs.declared.opening.Limits.{Limits}
 use Rattle.till.specs.declared.opening.Till.{Till}
 use Rattle.till.specs.declared.opening.OpenError.{OpenError}
@@ -21,4 +22,4 @@ opening_error l vs =
 
 -- a till with these limits and coins, or why there is none
 abbrev pub Opens : Limits → List ℕ → Result Till OpenError → Type 0
-Opens l vs r = MatchResult r (λ t. (opening_error l vs ≡ None) × (t.limits ≡ l) × (t.set ≡ vs)) (λ error. opening_error l vs ≡ Some error)
+Opens l vs r = MatchResult r (λ t. (opening_error l vs ≡ None) × (t.limits ≡ l) × (values_of t.set ≡ vs)) (λ error. opening_error l vs ≡ Some error)

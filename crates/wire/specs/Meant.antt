@@ -2,6 +2,7 @@
 use Rattle.std.specs.Prelude.{ℕ, List, ◌++◌, codes, decimal}
 use Rattle.std.specs.Borrow.{Bor}
 use Rattle.coins.specs.Calls as till
+use Rattle.coins.specs.Values.{counts_of}
 use Rattle.fields.specs.Bytes.{numbers}
 use Rattle.wire.specs.declared.call.Kind.{Kind}
 use Rattle.wire.specs.declared.call.Kind.TheVariants as kind
@@ -58,4 +59,4 @@ abbrev pub answer_meant : Answer → till.Answer
 answer_meant (Refused r) = till.refused (reason_number r.reason) r.place
 answer_meant (Number n) = till.number n
 answer_meant (Two a b) = till.two a b
-answer_meant (Coins ns) = till.coins ns.0
+answer_meant (Coins ns) = till.coins (counts_of ns)
