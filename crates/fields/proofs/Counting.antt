@@ -1,6 +1,6 @@
 -- Numbers taken as counts, one at a time. Assumes nothing.
 use Rattle.std.proofs.Common.{◌≡◌, ℕ, zero, suc, ◌<◌, ◌≤◌, true, false, ◌&&◌, ◌⊎◌, List, [], ◌∷◌, ◌++◌, length, get_or, take, replicate, refl, ap, ◌∙◌, inl, inr, append_assoc, arith}
-use Rattle.std.proofs.lemmas.List.{length-append, append-nil, length_push}
+use Rattle.std.proofs.lemmas.List.{length-append, append-nil, length_push, take_at}
 use Rattle.coins.specs.Calls.{all_to}
 use Rattle.fields.specs.Counted.{are_counts}
 use Rattle.fields.proofs.Numbers.{numbers_none}
@@ -46,5 +46,5 @@ pub count_more : (held : List ℕ) (n : ℕ) → all_to 65535 held ≡ true → 
 unfolding all_to
 count_more held n t h = grind (arith, all_to-append 65535 held (n ∷ []))
 
--- what the loop through the numbers needs
-pub ruleset counted = (not_counts, count_more, numbers_none, append_assoc, append-nil, length_push)
+-- what the loop through the numbers needs, and the first of them taken from an array
+pub ruleset counted = (not_counts, count_more, numbers_none, append_assoc, append-nil, length_push, take_at)
