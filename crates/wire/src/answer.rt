@@ -132,7 +132,7 @@ impl TryFrom<&[u8]> for Answer {
             return Err(NoAnswer);
         };
         let form = Form::try_from(*form)?;
-        read_form(form, rest).ok_or(NoAnswer)
+        read_form(form, rest)
     }
 }
 
@@ -159,37 +159,38 @@ pub fn write_answer(answer: Answer, out: &mut [u8]) -> Option<usize>
     }
 }
 
-// The answer of a form with these bytes behind it: a step of the reading above, and no conversion of its own.
-fn read_form(form: Form, bytes: &[u8]) -> Option<Answer>
-    ensures { option_map answer_meant result ≡ answer_of (form_number form) bytes.now }
+// The answer of a form with these bytes behind it: a step of the reading above, and no conversion of its own. It gives
+// what that gives, since an answer in an `Option` would be copied into a `Result`.
+fn read_form(form: Form, bytes: &[u8]) -> Result<Answer, NoAnswer>
+    ensures { option_map answer_meant (result_ok result) ≡ answer_of (form_number form) bytes.now }
 {
     match form {
         Form::Refused => {
-            let (number, rest) = split_number(bytes)?;
-            let place = lone_number(rest)?;
-            let reason = Reason::try_from(number).ok()?;
-            Some(Answer::Refused(Refusal { reason, place }))
+            let (number, rest) = split_number(bytes).ok_or(NoAnswer)?;
+            let place = lone_number(rest).ok_or(NoAnswer)?;
+            let reason = Reason::try_from(number).map_err(|_| NoAnswer)?;
+            Ok(Answer::Refused(Refusal { reason, place }))
         }
-        Form::Number => Some(Answer::Number(lone_number(bytes)?)),
+        Form::Number => Ok(Answer::Number(lone_number(bytes).ok_or(NoAnswer)?)),
         Form::Two => {
-            let (first, rest) = split_number(bytes)?;
-            let second = lone_number(rest)?;
-            Some(Answer::Two(first, second))
+            let (first, rest) = split_number(bytes).ok_or(NoAnswer)?;
+            let second = lone_number(rest).ok_or(NoAnswer)?;
+            Ok(Answer::Two(first, second))
         }
         Form::Coins => read_coins(bytes),
     }
 }
 
 // Coins, by their count and how many of each: a step of the reading above, and no conversion of its own.
-fn read_coins(bytes: &[u8]) -> Option<Answer>
-    ensures { option_map answer_meant result ≡ answer_of 3 bytes.now }
+fn read_coins(bytes: &[u8]) -> Result<Answer, NoAnswer>
+    ensures { option_map answer_meant (result_ok result) ≡ answer_of 3 bytes.now }
 {
     let [kinds, rest @ ..] = bytes else {
-        return None;
+        return Err(NoAnswer);
     };
     if rest.len() != 4 * usize::from(*kinds) {
-        return None;
+        return Err(NoAnswer);
     }
-    let counts = read_counts(rest)?;
-    Some(Answer::Coins(counts))
+    let counts = read_counts(rest).ok_or(NoAnswer)?;
+    Ok(Answer::Coins(counts))
 }
