@@ -1,7 +1,13 @@
 -- `falling`, one value at a time. Assumes nothing.
-use Rattle.std.proofs.Common.{◌≡◌, ℕ, ◌+◌, ◌<◌, ◌≤◌, Bool, ◌&&◌, eqb, ltb, leb, List, [], ◌∷◌, get_or, drop, length, refl, ap, arith}
+use Rattle.std.proofs.Common.{◌≡◌, ℕ, ◌+◌, ◌<◌, ◌≤◌, Bool, true, ◌&&◌, eqb, ltb, leb, List, [], ◌∷◌, get_or, drop, length, refl, ap, arith}
 use Rattle.std.proofs.lemmas.List.{drop_more, drop_all}
 use Rattle.coins.specs.Coins.{falling}
+
+-- a set of coins has some value
+pub some_value : (vs : List ℕ) → falling vs ≡ true → 0 < length vs
+unfolding falling
+some_value [] t = grind arith
+some_value (v ∷ vs) t = omega arith
 
 -- each value is below the one before it, the first below a, and the last is 1
 unfoldable pub falls_below : ℕ → List ℕ → Bool

@@ -3,10 +3,21 @@ use Rattle.std.proofs.Common.{◌≡◌, ℕ, suc, ◌<◌, ◌≤◌, min, true
 use Rattle.std.proofs.lemmas.Bool.{cases_lt, cases_Bool}
 use Rattle.coins.specs.Calls.{garbled}
 use Rattle.fields.specs.Bytes.{numbers}
+use Rattle.wire.specs.declared.call.Kind.{Kind}
+use Rattle.wire.specs.declared.call.Kind.TheVariants as kind
 use Rattle.wire.specs.Calls.{longest, may_have, call_of, read}
+use Rattle.wire.specs.Meant.{kind_number}
+
+pub kind_small : (k : Kind) → kind_number k ≤ 5
+kind_small kind.Fill = omega arith
+kind_small kind.Pay = omega arith
+kind_small kind.Sell = omega arith
+kind_small kind.Could = omega arith
+kind_small kind.Holds = omega arith
+kind_small kind.Spoils = omega arith
 
 -- no kind
-read_none : (bs rest : List ℕ) (k : ℕ) → bs ≡ k ∷ rest → 5 < k → read bs ≡ garbled 0
+pub read_none : (bs rest : List ℕ) (k : ℕ) → bs ≡ k ∷ rest → 5 < k → read bs ≡ garbled 0
 unfolding read
 read_none bs rest k e h = ap read e ∙ grind arith
 
@@ -16,7 +27,7 @@ unfolding read
 read_call bs rest k e h t = ap read e ∙ grind arith
 
 -- or not as many
-read_cut : (bs rest : List ℕ) (k : ℕ) → bs ≡ k ∷ rest → k ≤ 5 → may_have k (suc (length rest)) ≡ false → read bs ≡ garbled (min (length bs) (longest k))
+pub read_cut : (bs rest : List ℕ) (k : ℕ) → bs ≡ k ∷ rest → k ≤ 5 → may_have k (suc (length rest)) ≡ false → read bs ≡ garbled (min (length bs) (longest k))
 unfolding read
 read_cut bs rest k e h t = ap read e ∙ grind (arith, ap length e)
 
