@@ -26,8 +26,7 @@ impl Counts {
     pub fn new(numbers: [u16; MOST_KINDS], kinds: usize) -> Option<Counts>
         ensures { MatchOption result (16 < kinds) (λ c. (kinds ≤ 16) × (counts_of c ≡ take kinds numbers)) }
     {
-        let taken = PerKind::try_from(numbers.get(..kinds)?).ok()?;
-        Some(Counts(taken))
+        PerKind::first(&numbers, kinds).map(Counts)
     }
 
     // The numbers, from that of the largest coin on; handed on, so that callers need not name the field.

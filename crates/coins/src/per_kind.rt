@@ -1,5 +1,5 @@
 // A number for each kind of coin.
-ghost use Rattle.std.specs.Prelude.{◌≡◌, ◌-◌, ◌<◌, ◌≤◌, [], ◌∷◌, ◌++◌, length, drop, replicate, MatchResult};
+ghost use Rattle.std.specs.Prelude.{◌≡◌, ◌-◌, ◌<◌, ◌≤◌, [], ◌∷◌, ◌++◌, length, take, drop, replicate, MatchOption, MatchResult};
 
 use crate::MOST_KINDS;
 
@@ -60,6 +60,20 @@ impl PerKind {
             numbers: [0; MOST_KINDS],
             kinds: 0,
         }
+    }
+
+    // The first `kinds` of the numbers, if there are no more kinds than a set may have: copied at once, and not pushed.
+    #[tactic(auto, using(crate::proofs::Held::placed))]
+    pub(crate) fn first(numbers: &[u16; MOST_KINDS], kinds: usize) -> Option<PerKind>
+        ensures { MatchOption result (16 < kinds) (λ p. (kinds ≤ 16) × (numbers_of p ≡ take kinds numbers.now)) }
+    {
+        let taken = numbers.get(..kinds)?;
+        let mut places = [0; MOST_KINDS];
+        places[..kinds].copy_from_slice(taken);
+        Some(PerKind {
+            numbers: places,
+            kinds,
+        })
     }
 
     // A number for the next kind of coin.
