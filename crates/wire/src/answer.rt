@@ -159,8 +159,8 @@ pub fn write_answer(answer: Answer, out: &mut [u8]) -> Option<usize>
     }
 }
 
-// The answer of a form with these bytes behind it: a step of the reading above, and no conversion of its own. It gives
-// what that gives, since an answer in an `Option` would be copied into a `Result`.
+// The answer of a form with these bytes behind it: a step of the reading above, and no conversion of its own. A `Result`
+// as that gives, since an answer in an `Option` would have to be copied into one.
 fn read_form(form: Form, bytes: &[u8]) -> Result<Answer, NoAnswer>
     ensures { option_map answer_meant (result_ok result) ≡ answer_of (form_number form) bytes.now }
 {
